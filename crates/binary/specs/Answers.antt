@@ -1,0 +1,43 @@
+-- What each answer of the byte reader says in 01's terms: a value and the offset behind it, or refusal 1 at its place.
+use Prim.Native.Nat.{ℕ}
+use mathlib.Core.List.{List}
+use mathlib.Core.Bool.{Bool}
+use lib.ListN.{take, drop}
+use lib.IntN.{ℤ}
+use lib.Ieee.{Float}
+use Rattle.layout.specs.Walk.{Walk, fine, refusedAt}
+use Rattle.binary.specs.declared.numbers.ReadU8.{ReadU8}
+use Rattle.binary.specs.declared.numbers.ReadU32.{ReadU32}
+use Rattle.binary.specs.declared.numbers.ReadI32.{ReadI32}
+use Rattle.binary.specs.declared.numbers.ReadF32.{ReadF32}
+use Rattle.binary.specs.declared.numbers.ReadBool.{ReadBool}
+use Rattle.binary.specs.declared.numbers.Skipped.{Skipped}
+use Rattle.binary.specs.declared.strings.ReadString.{ReadString}
+
+abbrev pub u8Read : ReadU8 → Walk ℕ
+u8Read (ReadU8.Value b next) = fine b next
+u8Read (ReadU8.Short place) = refusedAt 1 place
+
+abbrev pub u32Read : ReadU32 → Walk ℕ
+u32Read (ReadU32.Value b next) = fine b next
+u32Read (ReadU32.Short place) = refusedAt 1 place
+
+abbrev pub i32Read : ReadI32 → Walk ℤ
+i32Read (ReadI32.Value z next) = fine z next
+i32Read (ReadI32.Short place) = refusedAt 1 place
+
+abbrev pub f32Read : ReadF32 → Walk Float
+f32Read (ReadF32.Value x next) = fine x next
+f32Read (ReadF32.Short place) = refusedAt 1 place
+
+abbrev pub boolRead : ReadBool → Walk Bool
+boolRead (ReadBool.Value b next) = fine b next
+boolRead (ReadBool.Short place) = refusedAt 1 place
+
+abbrev pub skipped : Skipped → Walk (Unit {0})
+skipped (Skipped.To next) = fine tt next
+skipped (Skipped.Short place) = refusedAt 1 place
+
+abbrev pub stringRead : List ℕ → ReadString → Walk (List ℕ)
+stringRead s (ReadString.Bytes start length next) = fine (take length (drop start s)) next
+stringRead s (ReadString.Short place) = refusedAt 1 place

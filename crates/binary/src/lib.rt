@@ -1,0 +1,4 @@
+// Document 01, module 1: the byte reader, as functions of the lent slice and a position. Every position is taken, those past
+// the end too.
+pub mod numbers;
+pub mod strings;

@@ -1,0 +1,117 @@
+-- Reading a section item by item, as document 01 describes it: each item stands whole at its offset, or the reading ends there with
+-- refusal 1. Definitions only.
+use Prim.Native.Nat.{ℕ, zero, suc, _+_, _*_, _^_, _-_}
+use mathlib.Core.List.{List, [], _∷_}
+use mathlib.Core.Bool.{Bool, true, false, not, cond}
+use lib.ListN.{length, getD, take, drop}
+use lib.Dec.{leb, ltb, eqb}
+use lib.IntN.{ℤ, pos}
+use lib.Ieee.{Float, ofBits, binary32}
+use mir.Syntax.{w32}
+use mir.Val.{toZ}
+
+-- A refusal: its number in 01, "Turned down, and by whose doing", and the values listed there, in that order.
+pub record Refusal : Type 0 where
+  pub number : ℕ
+  pub values : List ℤ
+
+-- What reading gives: a value and the offset behind it, or a refusal.
+pub data Walk (A : Type 0) : Type 0 where
+  fine : A → ℕ → Walk A
+  refused : Refusal → Walk A
+
+-- A reader takes the lent bytes and an offset.
+abbrev pub Reader : Type 0 → Type 0
+Reader A = List ℕ → ℕ → Walk A
+
+-- One reader after the other; a refusal ends the reading.
+abbrev pub after : {A B : Type 0} → Walk A → (A → ℕ → Walk B) → Walk B
+after (fine a next) f = f a next
+after (refused r) f = refused r
+
+abbrev pub _>>=_ : {A B : Type 0} → Reader A → (A → Reader B) → Reader B
+_>>=_ m f s at = after (m s at) (λ a next. f a s next)
+
+abbrev pub _>>_ : {A B : Type 0} → Reader A → Reader B → Reader B
+_>>_ m n s at = after (m s at) (λ a next. n s next)
+
+-- A value without reading; the offset reached.
+abbrev pub give : {A : Type 0} → A → Reader A
+give a s at = fine a at
+
+abbrev pub here : Reader ℕ
+here s at = fine at at
+
+-- A refusal whose one value is an offset.
+abbrev pub refusedAt : {A : Type 0} → ℕ → ℕ → Walk A
+refusedAt number at = refused (record { number = number; values = pos at ∷ [] })
+
+-- 1: a value does not fit in the bytes left, a start past the end included (place: the offset of the item that is not whole).
+-- An item is `width` bytes; `value` says what they are.
+unfoldable pub item : {A : Type 0} → ℕ → (List ℕ → ℕ → A) → Reader A
+item width value s at = cond (leb (at + width) (length s)) (fine (value s at) (at + width)) (refusedAt 1 at)
+
+-- Numbers are little endian.
+abbrev pub u32At : List ℕ → ℕ → ℕ
+u32At s at = getD s at 0 + 256 * getD s (at + 1) 0 + 65536 * getD s (at + 2) 0 + 16777216 * getD s (at + 3) 0
+
+abbrev pub u8 : Reader ℕ
+u8 = item 1 (λ s at. getD s at 0)
+
+-- A bool is one byte, true unless 0.
+abbrev pub bool : Reader Bool
+bool = do
+  b ← u8
+  give (not (eqb b 0))
+
+-- The 32 bits of an i32 or an f32.
+abbrev pub u32 : Reader ℕ
+u32 = item 4 u32At
+
+abbrev pub i32 : Reader ℤ
+i32 = do
+  b ← u32
+  give (toZ w32 b)
+
+abbrev pub f32 : Reader Float
+f32 = do
+  b ← u32
+  give (ofBits binary32 b)
+
+-- A skipped block, a string body or an interpolation block is one item.
+abbrev pub block : ℕ → Reader (Unit {0})
+block width = item width (λ s at. tt)
+
+abbrev pub bytes : ℕ → Reader (List ℕ)
+bytes width = item width (λ s at. take width (drop at s))
+
+-- A name: length u8, then that many bytes.
+unfoldable pub string : Reader (List ℕ)
+string = do
+  width ← u8
+  bytes width
+
+-- The same reader n times.
+unfoldable pub times : {A : Type 0} → ℕ → Reader A → Reader (Unit {0})
+times zero m = give tt
+times (suc n) m = do
+  m
+  times n m
+
+-- A count is an i32. 2: it is negative (its offset); tested after 2, 20: it is above the limit (its offset).
+unfoldable pub count : ℕ → Reader ℕ
+count limit = do
+  at ← here
+  n ← u32
+  λ s next. cond (ltb n (2 ^ 31)) (cond (leb n limit) (fine n next) (refusedAt 20 at)) (refusedAt 2 at)
+
+-- No i32 is above this limit: for the counts to which 20 does not apply.
+abbrev pub unlimited : ℕ
+unlimited = 2 ^ 31 - 1
+
+-- The items of a record, given by their widths, in file order.
+unfoldable pub items : List ℕ → Reader (Unit {0})
+items [] = give tt
+items (width ∷ widths) = do
+  block width
+  items widths

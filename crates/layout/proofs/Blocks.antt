@@ -106,11 +106,11 @@ times-short (suc n) widths s at some starts lacks =
 
 -- A run of equal items in front.
 module _ (n width room rest : ℕ) where
-  run-whole : n * width ≤ room → runPlace n width room rest ≡ n * width + rest
+  pub run-whole : n * width ≤ room → runPlace n width room rest ≡ n * width + rest
   unfolding runPlace
   run-whole fits = rw (le-leb _ _ fits)
 
-  run-short : room < n * width → runPlace n width room rest ≡ room / width * width
+  pub run-short : room < n * width → runPlace n width room rest ≡ room / width * width
   unfolding runPlace
   run-short lacks = rw (lt-leb _ _ lacks)
 

@@ -20,7 +20,7 @@ float-from-bits-result : tie.Need-float-from-bits-result
 float-from-bits-result c = subst (λ (b : Bool). T (not b)) (sym (nanBits-above binary32 (c .before .args .bits) ∙ le-ltb _ _ (c .if1 .left))) tt
 
 returns : tie.Need-returns
-unfolding ofBits
+unfolding ofBits div
 returns c =
     let b = c .before .args .bits in
     is-nan _ (subst T (sym (lt-ltb _ _ (c .if1 .taken)) ∙ sym (nanBits-above binary32 b) ∙ nanBits-is binary32 b) tt)

@@ -10,9 +10,11 @@ use mir.Syntax.{w32}
 use mir.Val.{SFits, toZ, ofZ}
 use mir.ValLaws.{toZ-ofZ}
 use lib.ListN.{take, drop}
-use Rattle.layout.specs.Walk.{Walk, fine, refusedAt, after, block, bytes}
-use Rattle.layout.proofs.Steps.{goes, stops, value-is, read-as, lacked-as}
-use Rattle.binary.specs.Answers.{u8Read, u32Read, i32Read, f32Read, boolRead, skipped, stringRead}
+use Rattle.layout.specs.Walk.{Walk, fine, refused, refusedAt, after, block, bytes}
+use Rattle.layout.proofs.Steps.{goes, stops, value-is, read-as, lacked-as, if-le, if-not-le, if-lt, if-not-lt}
+use Rattle.binary.specs.Answers.{u8Read, u32Read, i32Read, f32Read, boolRead, skipped, stringRead, because, countRead}
+use Rattle.binary.specs.declared.counts.Refusal.{Refusal}
+use Rattle.binary.specs.declared.counts.ReadCount.{ReadCount}
 use Rattle.binary.specs.declared.numbers.ReadU8.{ReadU8}
 use Rattle.binary.specs.declared.numbers.ReadU32.{ReadU32}
 use Rattle.binary.specs.declared.numbers.ReadI32.{ReadI32}
@@ -70,6 +72,13 @@ module _ (B : Type 0) (s : List ℕ) (w : Walk (List ℕ)) (f : List ℕ → ℕ
   pub string-stops : (place : ℕ) → stringRead s r ≡ w → r ≡ ReadString.Short place → refusedAt 1 place ≡ after w f
   string-stops place = stops (List ℕ) B ReadString (stringRead s) w f r (ReadString.Short place) _ refl
 
+module _ (B : Type 0) (w : Walk ℕ) (f : ℕ → ℕ → Walk B) (r : ReadCount) where
+  pub count-goes : (n next : ℕ) (v : Walk B) → countRead r ≡ w → r ≡ ReadCount.Value n next → v ≡ f n next → v ≡ after w f
+  count-goes n next v = goes ℕ B ReadCount countRead w f r (ReadCount.Value n next) n next v refl
+
+  pub count-stops : (why : Refusal) → countRead r ≡ w → r ≡ ReadCount.Refused why → refused (because why) ≡ after w f
+  count-stops why = stops ℕ B ReadCount countRead w f r (ReadCount.Refused why) (because why) refl
+
 -- A string's body, seen by `skip`.
 module _ (width : ℕ) (s : List ℕ) (at : ℕ) (r : Skipped) (contract : skipped r ≡ block width s at) where
   pub body-read : (next : ℕ) → r ≡ Skipped.To next → fine (take width (drop at s)) next ≡ bytes width s at
@@ -84,5 +93,5 @@ signed-is z y fits e = toZ-ofZ w32 z fits ∙ e
 
 pub ruleset reading = (
     u8-goes, u8-stops, u32-goes, u32-stops, i32-goes, i32-stops, f32-goes, f32-stops, bool-goes, bool-stops, skip-goes,
-    skip-stops, string-goes, string-stops, body-read, body-lacked, value-is, signed-is, refl
+    skip-stops, string-goes, string-stops, count-goes, count-stops, body-read, body-lacked, value-is, signed-is, if-le, if-not-le, if-lt, if-not-lt, refl
 )

@@ -1,11 +1,15 @@
--- What each answer of the byte reader says in 01's terms: a value and the offset behind it, or refusal 1 at its place.
+-- What each answer of the byte reader says in document 01's terms: a value and the offset behind it, or a refusal by its number
+-- and values.
 use Prim.Native.Nat.{ℕ}
-use mathlib.Core.List.{List}
+use mathlib.Core.List.{List, [], _∷_}
 use mathlib.Core.Bool.{Bool}
 use lib.ListN.{take, drop}
-use lib.IntN.{ℤ}
+use lib.IntN.{ℤ, pos}
 use lib.Ieee.{Float}
-use Rattle.layout.specs.Walk.{Walk, fine, refusedAt}
+use Rattle.layout.specs.Walk
+use Rattle.layout.specs.Walk.{Walk, fine, refused, refusal, refusedAt}
+use Rattle.binary.specs.declared.counts.Refusal.{Refusal}
+use Rattle.binary.specs.declared.counts.ReadCount.{ReadCount}
 use Rattle.binary.specs.declared.numbers.ReadU8.{ReadU8}
 use Rattle.binary.specs.declared.numbers.ReadU32.{ReadU32}
 use Rattle.binary.specs.declared.numbers.ReadI32.{ReadI32}
@@ -41,3 +45,13 @@ skipped (Skipped.Short place) = refusedAt 1 place
 abbrev pub stringRead : List ℕ → ReadString → Walk (List ℕ)
 stringRead s (ReadString.Bytes start length next) = fine (take length (drop start s)) next
 stringRead s (ReadString.Short place) = refusedAt 1 place
+
+abbrev pub because : Refusal → Walk.Refusal
+because (Refusal.TooShort at) = refusal 1 (pos at ∷ [])
+because (Refusal.NegativeCount at) = refusal 2 (pos at ∷ [])
+because (Refusal.CountAboveLimit at) = refusal 20 (pos at ∷ [])
+because Refusal.TooLong = refusal 16 []
+
+abbrev pub countRead : ReadCount → Walk ℕ
+countRead (ReadCount.Value n next) = fine n next
+countRead (ReadCount.Refused why) = refused (because why)

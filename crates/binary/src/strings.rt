@@ -1,13 +1,17 @@
-// Strings at a position: a length byte and as many bytes, or a field of fixed width.
+// Strings at a position: a length byte and as many bytes.
 ghost use mathlib.Core.Path.{_≡_};
-ghost use Rattle.layout.specs.Walk.{string};
-ghost use Rattle.binary.specs.Answers.{stringRead};
+ghost use Rattle.layout.specs.Walk.{string, times};
+ghost use Rattle.binary.specs.Answers.{stringRead, skipped};
 use crate::numbers;
 use crate::numbers::{ReadU8, Skipped};
 
 // Where a string's bytes start, how many there are and the position behind them, or the place of what does not fit.
 pub enum ReadString {
-    Bytes { start: usize, length: usize, next: usize },
+    Bytes {
+        start: usize,
+        length: usize,
+        next: usize,
+    },
     Short(usize),
 }
 
@@ -18,10 +22,38 @@ pub fn read_variable_string(s: &[u8], at: usize) -> ReadString
         ReadU8::Value(b, start) => {
             let length = b as usize;
             match numbers::skip(s, start, length) {
-                Skipped::To(next) => ReadString::Bytes { start, length, next },
+                Skipped::To(next) => ReadString::Bytes {
+                    start,
+                    length,
+                    next,
+                },
                 Skipped::Short(place) => ReadString::Short(place),
             }
         }
         ReadU8::Short(place) => ReadString::Short(place),
     }
+}
+
+// The position behind `count` strings.
+pub fn skip_strings(s: &[u8], at: usize, count: u32) -> Skipped
+    ensures { λ r. ⌜ skipped r ≡ times count string (now (s .entry)) at ⌝ }
+{
+    let mut next = at;
+    let mut left = count;
+    while 0 < left {
+        match read_variable_string(s, next) {
+            ReadString::Bytes {
+                start: _,
+                length: _,
+                next: behind,
+            } => {
+                next = behind;
+                left = left - 1;
+            }
+            ReadString::Short(place) => {
+                return Skipped::Short(place);
+            }
+        }
+    }
+    Skipped::To(next)
 }

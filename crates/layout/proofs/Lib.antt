@@ -1,3 +1,4 @@
 pub mod Steps
+pub mod Inversion
 pub mod Sizes
 pub mod Blocks

@@ -1,12 +1,14 @@
 -- Laws of one step of a walk: an item that is whole, one that is not, and what a walk does after each. Assumes nothing.
-use Prim.Native.Nat.{ℕ, _+_, _≤_, _<_, _^_}
+use Prim.Native.Nat.{ℕ, zero, suc, _+_, _-_, _≤_, _<_}
+use native.Mathlib.Numerals.{sub-one}
+use native.Mathlib.Omega.{arith}
 use mathlib.Core.List.{List}
 use mathlib.Core.Path.{_≡_, refl, sym, ap, _∙_}
 use borrow.Author.Tests.{le-leb, lt-leb, lt-ltb, le-ltb}
 use lib.ListN.{length}
-use lib.Dec.{leb}
+use lib.Dec.{leb, ltb}
 use mathlib.Core.Bool.{Bool, true, false, cond}
-use Rattle.layout.specs.Walk.{Refusal, Walk, fine, refused, refusedAt, Reader, after, item, block, u32, u32At, count}
+use Rattle.layout.specs.Walk.{Refusal, Walk, fine, refused, refusedAt, Reader, after, item, block, times}
 
 module _ {A : Type 0} (width : ℕ) (value : List ℕ → ℕ → A) (s : List ℕ) (at : ℕ) where
   pub whole : at + width ≤ length s → item width value s at ≡ fine (value s at) (at + width)
@@ -46,3 +48,34 @@ module _ (A B R : Type 0) (says : R → Walk A) (w : Walk A) (f : A → ℕ → 
 
 pub value-is : (A : Type 0) (a b : A) (next : ℕ) → a ≡ b → fine a next ≡ fine b next
 value-is A a b next e = rw e
+
+-- A test that was made.
+module _ (A : Type 0) (m n : ℕ) (v x y : A) where
+  pub if-le : m ≤ n → v ≡ x → v ≡ cond (leb m n) x y
+  if-le h e = rw (le-leb _ _ h) e
+
+  pub if-not-le : n < m → v ≡ y → v ≡ cond (leb m n) x y
+  if-not-le h e = rw (lt-leb _ _ h) e
+
+  pub if-lt : m < n → v ≡ x → v ≡ cond (ltb m n) x y
+  if-lt h e = rw (lt-ltb _ _ h) e
+
+  pub if-not-lt : n ≤ m → v ≡ y → v ≡ cond (ltb m n) x y
+  if-not-lt h e = rw (le-ltb _ _ h) e
+
+-- One turn of a reader that is repeated.
+module _ {A : Type 0} (m : Reader A) (s : List ℕ) (at : ℕ) where
+  pub times-turn : (n : ℕ) (a : A) (next : ℕ) → 0 < n → m s at ≡ fine a next → times n m s at ≡ times (n - 1) m s next
+  unfolding times
+  times-turn zero a next some e = absurd (omega arith)
+  times-turn (suc n) a next some e = rw (e, sub-one)
+
+  pub times-stop : (n : ℕ) (why : Refusal) → 0 < n → m s at ≡ refused why → times n m s at ≡ refused why
+  unfolding times
+  times-stop zero why some e = absurd (omega arith)
+  times-stop (suc n) why some e = rw e
+
+  pub times-done : (n : ℕ) → n ≤ 0 → times n m s at ≡ fine tt at
+  unfolding times
+  times-done zero none = refl
+  times-done (suc n) none = absurd (omega arith)

@@ -15,6 +15,9 @@ pub record Refusal : Type 0 where
   pub number : ℕ
   pub values : List ℤ
 
+abbrev pub refusal : ℕ → List ℤ → Refusal
+refusal number values = record { number = number; values = values }
+
 -- What reading gives: a value and the offset behind it, or a refusal.
 pub data Walk (A : Type 0) : Type 0 where
   fine : A → ℕ → Walk A
@@ -44,7 +47,7 @@ here s at = fine at at
 
 -- A refusal whose one value is an offset.
 abbrev pub refusedAt : {A : Type 0} → ℕ → ℕ → Walk A
-refusedAt number at = refused (record { number = number; values = pos at ∷ [] })
+refusedAt number at = refused (refusal number (pos at ∷ []))
 
 -- 1: a value does not fit in the bytes left, a start past the end included (place: the offset of the item that is not whole).
 -- An item is `width` bytes; `value` says what they are.
@@ -100,10 +103,9 @@ times (suc n) m = do
 
 -- A count is an i32. 2: it is negative (its offset); tested after 2, 20: it is above the limit (its offset).
 unfoldable pub count : ℕ → Reader ℕ
-count limit = do
-  at ← here
-  n ← u32
-  λ s next. cond (ltb n (2 ^ 31)) (cond (leb n limit) (fine n next) (refusedAt 20 at)) (refusedAt 2 at)
+count limit s at =
+    after (u32 s at)
+    (λ n next. cond (leb (2 ^ 31) n) (refusedAt 2 at) (cond (ltb limit n) (refusedAt 20 at) (fine n next)))
 
 -- No i32 is above this limit: for the counts to which 20 does not apply.
 abbrev pub unlimited : ℕ

@@ -1,0 +1,83 @@
+use borrow.Author.Needs.{needs}
+use Rattle.binary.proofs.Reading.{reading}
+use Rattle.section.specs.Model.{fourBits}
+use Rattle.section.proofs.display.read_four_bits.Statement.{statement}
+use Rattle.section.proofs.display.read_four_bits.Tie as tie
+
+read-u32-le-requires : tie.Need-read-u32-le-requires
+read-u32-le-requires c κs = search needs
+
+enum-known-place : tie.Need-enum-known-place
+enum-known-place c = search needs
+
+enum-known-a : tie.Need-enum-known-a
+enum-known-a c = search needs
+
+read-u32-le-requires-2 : tie.Need-read-u32-le-requires-2
+read-u32-le-requires-2 c κs = search needs
+
+enum-known-place-2 : tie.Need-enum-known-place-2
+enum-known-place-2 c = search needs
+
+enum-known-b : tie.Need-enum-known-b
+enum-known-b c = search needs
+
+read-u32-le-requires-3 : tie.Need-read-u32-le-requires-3
+read-u32-le-requires-3 c κs = search needs
+
+enum-known-place-3 : tie.Need-enum-known-place-3
+enum-known-place-3 c = search needs
+
+enum-known-c : tie.Need-enum-known-c
+enum-known-c c = search needs
+
+read-u32-le-requires-4 : tie.Need-read-u32-le-requires-4
+read-u32-le-requires-4 c κs = search needs
+
+enum-known-place-4 : tie.Need-enum-known-place-4
+enum-known-place-4 c = search needs
+
+enum-known-d : tie.Need-enum-known-d
+enum-known-d c = search needs
+
+returns : tie.Need-returns
+unfolding fourBits
+returns c = search reading
+
+returns-2 : tie.Need-returns-2
+unfolding fourBits
+returns-2 c = search reading
+
+returns-3 : tie.Need-returns-3
+unfolding fourBits
+returns-3 c = search reading
+
+returns-4 : tie.Need-returns-4
+unfolding fourBits
+returns-4 c = search reading
+
+returns-5 : tie.Need-returns-5
+unfolding fourBits
+returns-5 c = search reading
+
+pub read-four-bits-spec : {M : Type 1} → statement M
+read-four-bits-spec =
+    tie.close
+    (tie.spec
+    read-u32-le-requires
+    enum-known-place
+    enum-known-a
+    read-u32-le-requires-2
+    enum-known-place-2
+    enum-known-b
+    read-u32-le-requires-3
+    enum-known-place-3
+    enum-known-c
+    read-u32-le-requires-4
+    enum-known-place-4
+    enum-known-d
+    returns
+    returns-2
+    returns-3
+    returns-4
+    returns-5)

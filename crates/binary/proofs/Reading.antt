@@ -1,13 +1,14 @@
 -- How a walk goes on after each answer of the byte reader: the set `reading` is what `search` is handed where a function that
 -- reads returns. Assumes nothing.
-use Prim.Native.Nat.{ℕ, _+_}
+use Prim.Native.Nat.{ℕ, _<_}
 use mathlib.Core.Bool.{Bool}
 use mathlib.Core.List.{List}
 use mathlib.Core.Path.{_≡_, refl, ap, sym, _∙_}
 use lib.IntN.{ℤ}
+use lib.Signed.{mag}
 use lib.Ieee.{Float}
 use mir.Syntax.{w32}
-use mir.Val.{SFits, toZ, ofZ}
+use mir.Val.{toZ, ofZ}
 use mir.ValLaws.{toZ-ofZ}
 use lib.ListN.{take, drop}
 use Rattle.layout.specs.Walk.{Walk, fine, refused, refusedAt, after, block, bytes}
@@ -88,10 +89,33 @@ module _ (width : ℕ) (s : List ℕ) (at : ℕ) (r : Skipped) (contract : skipp
   body-lacked place seen = sym (lacked-as width _ s at _ (sym contract ∙ ap skipped seen))
 
 -- A signed number that was made and is handed on.
-pub signed-is : (z y : ℤ) → SFits w32 z → z ≡ y → toZ w32 (ofZ w32 z) ≡ y
-signed-is z y fits e = toZ-ofZ w32 z fits ∙ e
+pub signed-is : (z y : ℤ) → mag z < 2147483648 → z ≡ y → toZ w32 (ofZ w32 z) ≡ y
+signed-is z y fits e = toZ-ofZ w32 z (record { sfits = fits }) ∙ e
 
 pub ruleset reading = (
-    u8-goes, u8-stops, u32-goes, u32-stops, i32-goes, i32-stops, f32-goes, f32-stops, bool-goes, bool-stops, skip-goes,
-    skip-stops, string-goes, string-stops, count-goes, count-stops, body-read, body-lacked, value-is, signed-is, if-le, if-not-le, if-lt, if-not-lt, refl
+  u8-goes,
+  u8-stops,
+  u32-goes,
+  u32-stops,
+  i32-goes,
+  i32-stops,
+  f32-goes,
+  f32-stops,
+  bool-goes,
+  bool-stops,
+  skip-goes,
+  skip-stops,
+  string-goes,
+  string-stops,
+  count-goes,
+  count-stops,
+  body-read,
+  body-lacked,
+  value-is,
+  signed-is,
+  if-le,
+  if-not-le,
+  if-lt,
+  if-not-lt,
+  refl,
 )

@@ -6,7 +6,12 @@ ghost use mir.Syntax.{w32};
 ghost use mir.Val.{toZ};
 ghost use Rattle.layout.specs.Walk.{u8, u32, i32, f32, bool, block};
 ghost use Rattle.binary.specs.Answers.{
-    u8Read, u32Read, i32Read, f32Read, boolRead, skipped
+  u8Read,
+  u32Read,
+  i32Read,
+  f32Read,
+  boolRead,
+  skipped,
 };
 
 // The value and the position behind it, or the place of what does not fit.

@@ -3,7 +3,8 @@ ghost use mathlib.Core.Path.{_≡_};
 ghost use Rattle.layout.specs.Walk.{string, times};
 ghost use Rattle.binary.specs.Answers.{stringRead, skipped};
 use crate::numbers;
-use crate::numbers::{ReadU8, Skipped};
+use crate::numbers::ReadU8;
+use crate::numbers::Skipped;
 
 // Where a string's bytes start, how many there are and the position behind them, or the place of what does not fit.
 pub enum ReadString {

@@ -41,14 +41,14 @@ unfolding items size place
 items-short [] s at starts lacks = absurd (omega arith)
 items-short (width ∷ widths) s at starts lacks =
     elim (decLe width (length s - at)) [
-      yes fits ↦
-        let left : length s - (at + width) ≡ length s - at - width = omega arith in
-        let here : at + width + place widths (length s - at - width) ≡ at + (width + place widths (length s - at - width)) = omega arith in
-        rw (whole width _ s at (omega arith), le-leb _ _ fits)
-        (items-short widths s (at + width) (omega arith) (omega arith) ∙ ap (λ (room : ℕ). refusedAt 1 (at + width + place widths room)) left ∙ ap (refusedAt 1) here)
-    | no lack ↦
-        let here : at + 0 ≡ at = omega arith in
-        rw (short width _ s at (omega arith), lt-leb width (length s - at) (omega arith)) (ap (refusedAt 1) (sym here))
+      | yes fits ↦
+          let left : length s - (at + width) ≡ length s - at - width = omega arith in
+          let here : at + width + place widths (length s - at - width) ≡ at + (width + place widths (length s - at - width)) = omega arith in
+          rw (whole width _ s at (omega arith), le-leb _ _ fits)
+          (items-short widths s (at + width) (omega arith) (omega arith) ∙ ap (λ (room : ℕ). refusedAt 1 (at + width + place widths room)) left ∙ ap (refusedAt 1) here)
+      | no lack ↦
+          let here : at + 0 ≡ at = omega arith in
+          rw (short width _ s at (omega arith), lt-leb width (length s - at) (omega arith)) (ap (refusedAt 1) (sym here))
     ]
 
 pub place-le : (widths : List ℕ) (room : ℕ) → place widths room ≤ room
@@ -56,8 +56,8 @@ unfolding place
 place-le [] room = omega arith
 place-le (width ∷ widths) room =
     elim (decLe width room) [
-      yes fits ↦ rw (le-leb _ _ fits) (omega (arith, place-le widths (room - width)))
-    | no lack ↦ rw (lt-leb width room (omega arith)) (omega arith)
+      | yes fits ↦ rw (le-leb _ _ fits) (omega (arith, place-le widths (room - width)))
+      | no lack ↦ rw (lt-leb width room (omega arith)) (omega arith)
     ]
 
 pub times-whole : (n : ℕ) (widths s : List ℕ) (at : ℕ) → at + n * size widths ≤ length s → times n (items widths) s at ≡ fine tt (at + n * size widths)
@@ -94,14 +94,14 @@ times-short zero widths s at some starts lacks =
 times-short (suc n) widths s at some starts lacks =
     let more = suc-mul n (size widths) in
     elim (decLe (size widths) (length s - at)) [
-      yes fits ↦
-        let left : length s - (at + size widths) ≡ length s - at - size widths = omega arith in
-        let next = block-next widths (length s - at) some fits in
-        let here : at + size widths + blockPlace widths (length s - at - size widths) ≡ at + blockPlace widths (length s - at) = omega arith in
-        rw (items-whole widths s at (omega arith))
-        (times-short n widths s (at + size widths) some (omega arith) (omega arith) ∙ ap (λ (room : ℕ). refusedAt 1 (at + size widths + blockPlace widths room)) left ∙ ap (refusedAt 1) here)
-    | no lack ↦
-        rw (items-short widths s at starts (omega arith)) (ap (λ (p : ℕ). refusedAt 1 (at + p)) (block-first widths (length s - at) (omega arith)))
+      | yes fits ↦
+          let left : length s - (at + size widths) ≡ length s - at - size widths = omega arith in
+          let next = block-next widths (length s - at) some fits in
+          let here : at + size widths + blockPlace widths (length s - at - size widths) ≡ at + blockPlace widths (length s - at) = omega arith in
+          rw (items-whole widths s at (omega arith))
+          (times-short n widths s (at + size widths) some (omega arith) (omega arith) ∙ ap (λ (room : ℕ). refusedAt 1 (at + size widths + blockPlace widths room)) left ∙ ap (refusedAt 1) here)
+      | no lack ↦
+          rw (items-short widths s at starts (omega arith)) (ap (λ (p : ℕ). refusedAt 1 (at + p)) (block-first widths (length s - at) (omega arith)))
     ]
 
 -- A run of equal items in front.
@@ -119,13 +119,13 @@ run-next : (n width room : ℕ) (f : ℕ → ℕ) → width ≤ room → width +
 run-next n width room f fits =
     let more = suc-mul n width in
     elim (decLe (n * width) (room - width)) [
-      yes all ↦
-        let left : room - suc n * width ≡ room - width - n * width = omega arith in
-        rw (left, run-whole n width (room - width) _ all, run-whole (suc n) width room _ (omega arith)) (omega arith)
-    | no lack ↦
-        let some : 0 < width = pos-of-mul n width (omega arith) in
-        let one-more = suc-mul ((room - width) / width) width in
-        rw (run-short n width (room - width) _ (omega arith), run-short (suc n) width room _ (omega arith), div-eq-sub-div some fits, add-one) (omega arith)
+      | yes all ↦
+          let left : room - suc n * width ≡ room - width - n * width = omega arith in
+          rw (left, run-whole n width (room - width) _ all, run-whole (suc n) width room _ (omega arith)) (omega arith)
+      | no lack ↦
+          let some : 0 < width = pos-of-mul n width (omega arith) in
+          let one-more = suc-mul ((room - width) / width) width in
+          rw (run-short n width (room - width) _ (omega arith), run-short (suc n) width room _ (omega arith), div-eq-sub-div some fits, add-one) (omega arith)
     ]
 
 pub place-run : (n width : ℕ) (widths : List ℕ) (room : ℕ) → place (replicate n width ++ widths) room ≡ runPlace n width room (place widths (room - n * width))
@@ -136,8 +136,8 @@ place-run zero width widths room =
     rw (all, run-whole zero width room _ (omega arith)) (omega arith)
 place-run (suc n) width widths room =
     elim (decLe width room) [
-      yes fits ↦ rw (le-leb _ _ fits, place-run n width widths (room - width)) (run-next n width room (place widths) fits)
-    | no lack ↦
-        let more = suc-mul n width in
-        rw (lt-leb width room (omega arith), run-short (suc n) width room _ (omega arith), div-eq-of-lt {n = room} {m = width} (omega arith)) (sym (zero-mul width))
+      | yes fits ↦ rw (le-leb _ _ fits, place-run n width widths (room - width)) (run-next n width room (place widths) fits)
+      | no lack ↦
+          let more = suc-mul n width in
+          rw (lt-leb width room (omega arith), run-short (suc n) width room _ (omega arith), div-eq-of-lt {n = room} {m = width} (omega arith)) (sym (zero-mul width))
     ]

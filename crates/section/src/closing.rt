@@ -5,12 +5,15 @@ ghost use Rattle.layout.specs.Records.{boneState, morphState, constraintState, 
 ghost use Rattle.binary.specs.Answers.{skipped};
 ghost use Rattle.section.specs.Model.{states, ending};
 ghost use Rattle.section.specs.Answers.{statesRead, endingRead};
-use binary::counts::Refusal;
-use binary::numbers;
-use binary::numbers::{ReadBool, ReadU32, ReadU8, Skipped};
-use binary::records;
 use crate::items;
 use crate::names::Counts;
+use binary::counts::Refusal;
+use binary::numbers;
+use binary::numbers::ReadBool;
+use binary::numbers::ReadU8;
+use binary::numbers::ReadU32;
+use binary::numbers::Skipped;
+use binary::records;
 
 // The offset of each block of states.
 pub struct States {
@@ -68,7 +71,11 @@ pub fn read_states(s: &[u8], at: usize, counts: Counts) -> ReadStates
         Skipped::Short(place) => ReadStates::Refused(Refusal::TooShort(place)),
         Skipped::To(morphs) => match skip_morph_states(s, morphs, counts.morphs.count) {
             Skipped::Short(place) => ReadStates::Refused(Refusal::TooShort(place)),
-            Skipped::To(constraints) => match skip_constraint_states(s, constraints, counts.constraints) {
+            Skipped::To(constraints) => match skip_constraint_states(
+                s,
+                constraints,
+                counts.constraints,
+            ) {
                 Skipped::Short(place) => ReadStates::Refused(Refusal::TooShort(place)),
                 Skipped::To(parents) => match skip_parent_states(s, parents, counts.parents) {
                     Skipped::Short(place) => ReadStates::Refused(Refusal::TooShort(place)),

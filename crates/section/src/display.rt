@@ -5,7 +5,10 @@ ghost use Rattle.section.specs.Model.{fourBits, view, scroll};
 ghost use Rattle.section.specs.Answers.{fourBitsRead, viewRead, scrollRead};
 use binary::counts::Refusal;
 use binary::numbers;
-use binary::numbers::{ReadBool, ReadU32, ReadU8, Skipped};
+use binary::numbers::ReadBool;
+use binary::numbers::ReadU8;
+use binary::numbers::ReadU32;
+use binary::numbers::Skipped;
 
 pub struct FourBits(pub u32, pub u32, pub u32, pub u32);
 

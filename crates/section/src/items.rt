@@ -6,15 +6,22 @@ ghost use Prim.Native.Nat.{_<_};
 ghost use lib.ListN.{replicate};
 ghost use Rattle.layout.specs.Records.{bone, morph, model, boneState, morphState, constraintState, parentState};
 ghost use Rattle.binary.specs.Items.{widths};
-use binary::records::{Items, Run};
+use binary::records::Items;
+use binary::records::Run;
 
 pub fn bone_items(behind: u32) -> Items
     ensures { λ r. ⌜ widths r ≡ 4 ∷ (replicate behind 4 ++ bone) ⌝ }
 {
     Items {
         first: 4,
-        run1: Run { times: behind, width: 4 },
-        run2: Run { times: 1, width: 16 },
+        run1: Run {
+            times: behind,
+            width: 4,
+        },
+        run2: Run {
+            times: 1,
+            width: 16,
+        },
         run3: Run { times: 7, width: 4 },
         run4: Run { times: 2, width: 1 },
         run5: Run { times: 0, width: 1 },
@@ -26,7 +33,10 @@ pub fn morph_items(behind: u32) -> Items
 {
     Items {
         first: 4,
-        run1: Run { times: behind, width: 4 },
+        run1: Run {
+            times: behind,
+            width: 4,
+        },
         run2: Run { times: 1, width: 4 },
         run3: Run { times: 1, width: 1 },
         run4: Run { times: 0, width: 1 },
@@ -41,10 +51,19 @@ pub(crate) fn model_items(behind: u32, constraints: u32, parents: u32) -> Items
 {
     Items {
         first: 4,
-        run1: Run { times: behind, width: 4 },
+        run1: Run {
+            times: behind,
+            width: 4,
+        },
         run2: Run { times: 1, width: 1 },
-        run3: Run { times: constraints, width: 1 },
-        run4: Run { times: 2 * parents, width: 4 },
+        run3: Run {
+            times: constraints,
+            width: 1,
+        },
+        run4: Run {
+            times: 2 * parents,
+            width: 4,
+        },
         run5: Run { times: 1, width: 1 },
     }
 }
@@ -55,8 +74,14 @@ fn state_items(first: u8, words: u32, bools: u32) -> Items
 {
     Items {
         first,
-        run1: Run { times: words, width: 4 },
-        run2: Run { times: bools, width: 1 },
+        run1: Run {
+            times: words,
+            width: 4,
+        },
+        run2: Run {
+            times: bools,
+            width: 1,
+        },
         run3: Run { times: 0, width: 1 },
         run4: Run { times: 0, width: 1 },
         run5: Run { times: 0, width: 1 },

@@ -7,13 +7,14 @@ ghost use Rattle.binary.specs.Items.{widths};
 ghost use Rattle.section.specs.Model.{keyframes, keyframeBlocks};
 ghost use Rattle.section.specs.Limits.{edition1};
 ghost use Rattle.section.specs.Answers.{keyframesRead, keyframeBlocksRead};
+use crate::items;
+use crate::names::Counts;
 use binary::counts;
-use binary::counts::{ReadCount, Refusal};
+use binary::counts::ReadCount;
+use binary::counts::Refusal;
 use binary::numbers::Skipped;
 use binary::records;
 use binary::records::Items;
-use crate::items;
-use crate::names::Counts;
 
 pub struct Keyframes {
     pub initial_offset: usize,
@@ -78,17 +79,36 @@ pub fn read_keyframes(
 pub fn read_bone_keyframes(s: &[u8], at: usize, tracks: u32) -> ReadKeyframes
     ensures { λ r. ⌜ keyframesRead r ≡ keyframes tracks (initial bone) (additional bone) (edition1 .additional) (now (s .entry)) at ⌝ }
 {
-    read_keyframes(s, at, tracks, items::bone_items(2), items::bone_items(3), 65534)
+    read_keyframes(
+        s,
+        at,
+        tracks,
+        items::bone_items(2),
+        items::bone_items(3),
+        65534,
+    )
 }
 
 pub fn read_morph_keyframes(s: &[u8], at: usize, tracks: u32) -> ReadKeyframes
     ensures { λ r. ⌜ keyframesRead r ≡ keyframes tracks (initial morph) (additional morph) (edition1 .additional) (now (s .entry)) at ⌝ }
 {
-    read_keyframes(s, at, tracks, items::morph_items(2), items::morph_items(3), 65534)
+    read_keyframes(
+        s,
+        at,
+        tracks,
+        items::morph_items(2),
+        items::morph_items(3),
+        65534,
+    )
 }
 
 // A model has one track of its own.
-pub(crate) fn read_model_keyframes(s: &[u8], at: usize, constraints: u32, parents: u32) -> ReadKeyframes
+pub(crate) fn read_model_keyframes(
+    s: &[u8],
+    at: usize,
+    constraints: u32,
+    parents: u32,
+) -> ReadKeyframes
     requires { ⌜ parents < 2147483648 ⌝ }
     ensures { λ r. ⌜ keyframesRead r ≡ keyframes 1 (initial (model constraints parents)) (additional (model constraints parents)) unlimited (now (s .entry)) at ⌝ }
 {

@@ -6,3 +6,4 @@ pub mod keyframes;
 pub mod model;
 pub mod names;
 pub mod opening;
+pub mod summary;

@@ -3,17 +3,26 @@ ghost use mathlib.Core.Path.{_≡_};
 ghost use Rattle.section.specs.Model.{front, modelSection};
 ghost use Rattle.section.specs.Limits.{edition1};
 ghost use Rattle.section.specs.Answers.{frontRead, modelRead};
-use binary::counts::Refusal;
 use crate::closing;
-use crate::closing::{Ending, ReadEnding, ReadStates, States};
+use crate::closing::Ending;
+use crate::closing::ReadEnding;
+use crate::closing::ReadStates;
+use crate::closing::States;
 use crate::display;
-use crate::display::{ReadScroll, ReadView, Scroll, View};
+use crate::display::ReadScroll;
+use crate::display::ReadView;
+use crate::display::Scroll;
+use crate::display::View;
 use crate::keyframes;
-use crate::keyframes::{KeyframeBlocks, ReadKeyframeBlocks};
+use crate::keyframes::KeyframeBlocks;
+use crate::keyframes::ReadKeyframeBlocks;
 use crate::names;
-use crate::names::{Counts, ReadCounts};
+use crate::names::Counts;
+use crate::names::ReadCounts;
 use crate::opening;
-use crate::opening::{Opening, ReadOpening};
+use crate::opening::Opening;
+use crate::opening::ReadOpening;
+use binary::counts::Refusal;
 
 // All that stands before the records.
 pub struct Front {
@@ -75,7 +84,11 @@ pub fn read_model(s: &[u8], at: usize) -> ReadModel
             let counts = front.counts;
             match keyframes::read_keyframe_blocks(s, at, counts) {
                 ReadKeyframeBlocks::Refused(why) => ReadModel::Refused(why),
-                ReadKeyframeBlocks::Read(keyframes, at) => match closing::read_states(s, at, counts) {
+                ReadKeyframeBlocks::Read(keyframes, at) => match closing::read_states(
+                    s,
+                    at,
+                    counts,
+                ) {
                     ReadStates::Refused(why) => ReadModel::Refused(why),
                     ReadStates::Read(states, at) => match closing::read_ending(s, at) {
                         ReadEnding::Refused(why) => ReadModel::Refused(why),

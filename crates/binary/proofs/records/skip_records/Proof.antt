@@ -37,13 +37,13 @@ div-fit c = search needs
 
 -- src/records.rt:106:33
 mul-t11 : tie.Need-mul-t11
-mul-t11 c = 
+mul-t11 c =
     let a = c .before .before .before .before .before .before .args in
     omega (arith, fits-in (a .count) (c .before .before .record-size .result) _ (a .s .now) (a .at) (c .before .before .before .if2 .left) (c .before .before .record-size .ensures) (c .if4 .taken) (c .before .if3 .left))
 
 -- src/records.rt:106:28
 add-t12 : tie.Need-add-t12
-add-t12 c = 
+add-t12 c =
     let a = c .before .before .before .before .before .before .args in
     omega (arith, fits-in (a .count) (c .before .before .record-size .result) _ (a .s .now) (a .at) (c .before .before .before .if2 .left) (c .before .before .record-size .ensures) (c .if4 .taken) (c .before .if3 .left))
 
@@ -67,13 +67,13 @@ place-in-record-requires c κs = search needs
 
 -- src/records.rt:108:26
 add-t15 : tie.Need-add-t15
-add-t15 c = 
+add-t15 c =
     let a = c .before .before .before .before .before .before .before .args in
     omega (arith, place-in (a .count) (c .before .before .before .record-size .result) _ (a .s .now) (a .at) (c .before .before .before .before .if2 .left) (c .before .before .before .record-size .ensures) _ (c .place-in-record .ensures))
 
 -- src/records.rt:108:20
 add-t16 : tie.Need-add-t16
-add-t16 c = 
+add-t16 c =
     let a = c .before .before .before .before .before .before .before .args in
     omega (arith, place-in (a .count) (c .before .before .before .record-size .result) _ (a .s .now) (a .at) (c .before .before .before .before .if2 .left) (c .before .before .before .record-size .ensures) _ (c .place-in-record .ensures))
 

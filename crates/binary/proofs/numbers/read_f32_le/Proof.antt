@@ -1,33 +1,24 @@
+-- `read_f32_le` meets its contract: each return is where the walk goes on to or stops. Assumes nothing.
 use borrow.Author.Needs.{needs}
 use Rattle.binary.proofs.Reading.{reading}
 use Rattle.binary.proofs.numbers.read_f32_le.Statement.{statement}
 use Rattle.binary.proofs.numbers.read_f32_le.Tie as tie
-use Rattle.binary.proofs.numbers.read_f32_le.Reads as reads
-use Rattle.binary.proofs.numbers.read_f32_le.Lts as lts
-use Rattle.binary.proofs.numbers.float.Reads as float-reads
-use Rattle.binary.proofs.numbers.read_u32_le.Reads as read-u32-le-reads
 
--- src/numbers.rt:132:11
 read-u32-le-requires : tie.Need-read-u32-le-requires
 read-u32-le-requires c κs = search needs
 
--- src/numbers.rt:133:24
 enum-known-bits : tie.Need-enum-known-bits
 enum-known-bits c = search needs
 
--- src/numbers.rt:133:54
 float-requires : tie.Need-float-requires
 float-requires c κs = search needs
 
--- src/numbers.rt:134:24
 enum-known-place : tie.Need-enum-known-place
 enum-known-place c = search needs
 
--- src/numbers.rt:129:1
 returns : tie.Need-returns
 returns c = search reading
 
--- src/numbers.rt:129:1
 returns-2 : tie.Need-returns-2
 returns-2 c = search reading
 

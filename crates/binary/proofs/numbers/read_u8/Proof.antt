@@ -1,3 +1,4 @@
+-- `read_u8` meets its contract. Assumes nothing.
 use borrow.Author.Needs.{needs}
 use Rattle.binary.proofs.numbers.read_u8.Statement.{statement}
 use Rattle.binary.proofs.numbers.read_u8.Tie as tie
@@ -5,19 +6,15 @@ use mathlib.Core.Path.{sym}
 use native.Mathlib.Omega.{arith}
 use Rattle.layout.proofs.Steps.{whole, short}
 
--- src/numbers.rt:48:23
 shared-slice-read-t7 : tie.Need-shared-slice-read-t7
 shared-slice-read-t7 c = search needs
 
--- src/numbers.rt:48:30
 add-t8 : tie.Need-add-t8
 add-t8 c = search needs
 
--- src/numbers.rt:44:1
 returns : tie.Need-returns
 returns c = sym (whole 1 _ _ _ (omega arith))
 
--- src/numbers.rt:44:1
 returns-2 : tie.Need-returns-2
 returns-2 c = sym (short 1 _ _ _ (omega arith))
 

@@ -1,62 +1,46 @@
+-- `place_in_record` meets its contract. Assumes nothing.
 use borrow.Author.Needs.{needs}
 use native.Mathlib.Omega.{arith}
 use Rattle.binary.proofs.Runs.{place-of, first-short}
 use Rattle.binary.proofs.records.place_in_record.Statement.{statement}
 use Rattle.binary.proofs.records.place_in_record.Tie as tie
-use Rattle.binary.proofs.records.place_in_record.Reads as reads
-use Rattle.binary.proofs.records.place_in_record.Lts as lts
-use Rattle.binary.proofs.records.place_in_run.Reads as place-in-run-reads
-use Rattle.binary.proofs.records.room_after.Reads as room-after-reads
 
--- src/records.rt:71:17
 cast-first : tie.Need-cast-first
 cast-first c = search needs
 
--- src/records.rt:73:9
 returns : tie.Need-returns
 returns c = search first-short
 
--- src/records.rt:76:9
 room-after-requires : tie.Need-room-after-requires
 room-after-requires c κs = search needs
 
--- src/records.rt:77:9
 room-after-requires-2 : tie.Need-room-after-requires-2
 room-after-requires-2 c κs = search needs
 
--- src/records.rt:78:9
 room-after-requires-3 : tie.Need-room-after-requires-3
 room-after-requires-3 c κs = search needs
 
--- src/records.rt:79:9
 room-after-requires-4 : tie.Need-room-after-requires-4
 room-after-requires-4 c κs = search needs
 
--- src/records.rt:80:9
 place-in-run-requires : tie.Need-place-in-run-requires
 place-in-run-requires c κs = search needs
 
--- src/records.rt:81:9
 place-in-run-requires-2 : tie.Need-place-in-run-requires-2
 place-in-run-requires-2 c κs = omega arith
 
--- src/records.rt:82:9
 place-in-run-requires-3 : tie.Need-place-in-run-requires-3
 place-in-run-requires-3 c κs = omega arith
 
--- src/records.rt:83:9
 place-in-run-requires-4 : tie.Need-place-in-run-requires-4
 place-in-run-requires-4 c κs = omega arith
 
--- src/records.rt:84:9
 place-in-run-requires-5 : tie.Need-place-in-run-requires-5
 place-in-run-requires-5 c κs = omega arith
 
--- src/records.rt:85:5
 add-result : tie.Need-add-result
 add-result c = omega arith
 
--- src/records.rt:68:1
 returns-2 : tie.Need-returns-2
 returns-2 c = search place-of
 

@@ -1,38 +1,29 @@
+-- `place_in_run` meets its contract. Assumes nothing.
 use borrow.Author.Needs.{needs}
 use native.Mathlib.Omega.{arith}
 use native.Mathlib.Nat.{div-mul-le-self}
 use Rattle.binary.proofs.Runs.{in-run-past, in-run-short, in-run-some}
 use Rattle.binary.proofs.records.place_in_run.Statement.{statement}
 use Rattle.binary.proofs.records.place_in_run.Tie as tie
-use Rattle.binary.proofs.records.place_in_run.Reads as reads
-use Rattle.binary.proofs.records.place_in_run.Lts as lts
-use Rattle.binary.proofs.records.run_size.Reads as run-size-reads
 
--- src/records.rt:58:9
 run-size-requires : tie.Need-run-size-requires
 run-size-requires c κs = search needs
 
--- src/records.rt:60:9
 add-result : tie.Need-add-result
 add-result c = search needs
 
--- src/records.rt:62:21
 cast-width : tie.Need-cast-width
 cast-width c = search needs
 
--- src/records.rt:63:9
 div-result : tie.Need-div-result
 div-result c = search in-run-some
 
--- src/records.rt:63:9
 mul-result : tie.Need-mul-result
 mul-result c = let a = c .before .before .before .args in omega (arith, div-mul-le-self (a .room) (a .run .width))
 
--- src/records.rt:54:1
 returns : tie.Need-returns
 returns c = search in-run-past
 
--- src/records.rt:54:1
 returns-2 : tie.Need-returns-2
 returns-2 c = search in-run-short
 

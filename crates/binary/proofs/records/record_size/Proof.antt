@@ -1,56 +1,42 @@
+-- `record_size` meets its contract. Assumes nothing.
 use borrow.Author.Needs.{needs}
 use Rattle.binary.proofs.Runs.{size-of}
 use Rattle.binary.proofs.records.record_size.Statement.{statement}
 use Rattle.binary.proofs.records.record_size.Tie as tie
-use Rattle.binary.proofs.records.record_size.Reads as reads
-use Rattle.binary.proofs.records.record_size.Lts as lts
-use Rattle.binary.proofs.records.run_size.Reads as run-size-reads
 
--- src/records.rt:36:17
 cast-first : tie.Need-cast-first
 cast-first c = search needs
 
--- src/records.rt:38:11
 run-size-requires : tie.Need-run-size-requires
 run-size-requires c κs = search needs
 
--- src/records.rt:37:5
 add-result : tie.Need-add-result
 add-result c = search needs
 
--- src/records.rt:39:11
 run-size-requires-2 : tie.Need-run-size-requires-2
 run-size-requires-2 c κs = search needs
 
--- src/records.rt:37:5
 add-result-2 : tie.Need-add-result-2
 add-result-2 c = search needs
 
--- src/records.rt:40:11
 run-size-requires-3 : tie.Need-run-size-requires-3
 run-size-requires-3 c κs = search needs
 
--- src/records.rt:37:5
 add-result-3 : tie.Need-add-result-3
 add-result-3 c = search needs
 
--- src/records.rt:41:11
 run-size-requires-4 : tie.Need-run-size-requires-4
 run-size-requires-4 c κs = search needs
 
--- src/records.rt:37:5
 add-result-4 : tie.Need-add-result-4
 add-result-4 c = search needs
 
--- src/records.rt:42:11
 run-size-requires-5 : tie.Need-run-size-requires-5
 run-size-requires-5 c κs = search needs
 
--- src/records.rt:37:5
 add-result-5 : tie.Need-add-result-5
 add-result-5 c = search needs
 
--- src/records.rt:33:1
 returns : tie.Need-returns
 returns c = search size-of
 

@@ -1,25 +1,20 @@
+-- `run_size` meets its contract. Assumes nothing.
 use borrow.Author.Needs.{needs}
 use native.Mathlib.Omega.{arith}
 use mathlib.Core.Path.{refl}
 use Rattle.binary.proofs.Runs.{run-small}
 use Rattle.binary.proofs.records.run_size.Statement.{statement}
 use Rattle.binary.proofs.records.run_size.Tie as tie
-use Rattle.binary.proofs.records.run_size.Reads as reads
-use Rattle.binary.proofs.records.run_size.Lts as lts
 
--- src/records.rt:30:6
 cast-result : tie.Need-cast-result
 cast-result c = search needs
 
--- src/records.rt:30:29
 cast-result-2 : tie.Need-cast-result-2
 cast-result-2 c = search needs
 
--- src/records.rt:30:5
 mul-result : tie.Need-mul-result
 mul-result c = let r = c .before .before .args .run in omega (arith, run-small (r .times) (r .width) (search needs) (search needs))
 
--- src/records.rt:27:1
 returns : tie.Need-returns
 returns c = let r = c .before .before .args .run in record { is = refl; small = run-small (r .times) (r .width) (search needs) (search needs) }
 

@@ -1,3 +1,4 @@
+-- `skip_parent_states` meets its contract: the items are those that it hands on. Assumes nothing.
 use borrow.Author.Needs.{needs}
 use Rattle.section.proofs.Blocks.{skips-items}
 use Rattle.section.proofs.closing.skip_parent_states.Statement.{statement}

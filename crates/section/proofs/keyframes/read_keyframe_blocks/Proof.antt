@@ -1,3 +1,4 @@
+-- `read_keyframe_blocks` meets its contract: each return is where the walk goes on to or stops. Assumes nothing.
 use borrow.Author.Needs.{needs}
 use Rattle.section.proofs.Reading.{reading}
 use Rattle.section.specs.Model.{keyframeBlocks}

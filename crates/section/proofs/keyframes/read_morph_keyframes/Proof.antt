@@ -1,3 +1,4 @@
+-- `read_morph_keyframes` meets its contract: the items are those that it hands on. Assumes nothing.
 use borrow.Author.Needs.{needs}
 use Rattle.section.proofs.Blocks.{reads-items}
 use Rattle.section.proofs.keyframes.read_morph_keyframes.Statement.{statement}

@@ -1,3 +1,4 @@
+-- `read_model` meets its contract: each return is where the walk goes on to or stops. Assumes nothing.
 use borrow.Author.Needs.{needs}
 use mathlib.Core.Path.{sym, ap, _∙_}
 use Rattle.section.specs.Answers.{frontRead}

@@ -1,3 +1,4 @@
+-- `read_document_model_summary` meets its contract: each return is where the walk goes on to or stops. Assumes nothing.
 use Prim.Native.Nat.{ℕ}
 use mathlib.Core.Path.{_≡_}
 use borrow.Author.Needs.{needs}

@@ -1,3 +1,4 @@
+-- `sections` meets its contract. Assumes nothing.
 use mathlib.Core.Path.{refl}
 use Rattle.section.specs.Summary.{sectionsOf}
 use Rattle.section.proofs.summary.sections.Statement.{statement}

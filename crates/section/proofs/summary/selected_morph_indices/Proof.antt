@@ -1,3 +1,4 @@
+-- `selected_morph_indices` meets its contract. Assumes nothing.
 use Rattle.binary.proofs.Reading.{signed-is}
 use borrow.Author.Needs.{needs}
 use Rattle.section.specs.Summary.{indicesOf}

@@ -1,3 +1,4 @@
+-- `summary` meets its contract. Assumes nothing.
 use Rattle.binary.proofs.Reading.{signed-is}
 use Rattle.section.specs.Summary.{summaryOf}
 use borrow.Author.Needs.{needs}

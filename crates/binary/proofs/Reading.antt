@@ -13,9 +13,13 @@ use mir.ValLaws.{toZ-ofZ}
 use lib.ListN.{take, drop}
 use Rattle.layout.specs.Walk.{Walk, fine, refused, refusedAt, after, block, bytes}
 use Rattle.layout.proofs.Steps.{goes, stops, value-is, read-as, lacked-as, if-le, if-not-le, if-lt, if-not-lt}
-use Rattle.binary.specs.Answers.{u8Read, u32Read, i32Read, f32Read, boolRead, skipped, stringRead, because, countRead}
+use Rattle.binary.specs.Answers.{u8Read, u32Read, i32Read, f32Read, boolRead, u32x3Read, u32x4Read, skipped, stringRead, because, countRead}
 use Rattle.binary.specs.declared.counts.Refusal.{Refusal}
 use Rattle.binary.specs.declared.counts.ReadCount.{ReadCount}
+use Rattle.binary.specs.declared.groups.Bits3.{Bits3}
+use Rattle.binary.specs.declared.groups.Bits4.{Bits4}
+use Rattle.binary.specs.declared.groups.ReadBits3.{ReadBits3}
+use Rattle.binary.specs.declared.groups.ReadBits4.{ReadBits4}
 use Rattle.binary.specs.declared.numbers.ReadU8.{ReadU8}
 use Rattle.binary.specs.declared.numbers.ReadU32.{ReadU32}
 use Rattle.binary.specs.declared.numbers.ReadI32.{ReadI32}
@@ -80,6 +84,20 @@ module _ (B : Type 0) (w : Walk ℕ) (f : ℕ → ℕ → Walk B) (r : ReadCount
   pub count-stops : (why : Refusal) → countRead r ≡ w → r ≡ ReadCount.Refused why → refused (because why) ≡ after w f
   count-stops why = stops ℕ B ReadCount countRead w f r (ReadCount.Refused why) (because why) refl
 
+module _ (B : Type 0) (w : Walk Bits3) (f : Bits3 → ℕ → Walk B) (r : ReadBits3) where
+  pub u32x3-goes : (b : Bits3) (next : ℕ) (v : Walk B) → u32x3Read r ≡ w → r ≡ ReadBits3.Value b next → v ≡ f b next → v ≡ after w f
+  u32x3-goes b next v = goes Bits3 B ReadBits3 u32x3Read w f r (ReadBits3.Value b next) b next v refl
+
+  pub u32x3-stops : (place : ℕ) → u32x3Read r ≡ w → r ≡ ReadBits3.Short place → refusedAt 1 place ≡ after w f
+  u32x3-stops place = stops Bits3 B ReadBits3 u32x3Read w f r (ReadBits3.Short place) _ refl
+
+module _ (B : Type 0) (w : Walk Bits4) (f : Bits4 → ℕ → Walk B) (r : ReadBits4) where
+  pub u32x4-goes : (b : Bits4) (next : ℕ) (v : Walk B) → u32x4Read r ≡ w → r ≡ ReadBits4.Value b next → v ≡ f b next → v ≡ after w f
+  u32x4-goes b next v = goes Bits4 B ReadBits4 u32x4Read w f r (ReadBits4.Value b next) b next v refl
+
+  pub u32x4-stops : (place : ℕ) → u32x4Read r ≡ w → r ≡ ReadBits4.Short place → refusedAt 1 place ≡ after w f
+  u32x4-stops place = stops Bits4 B ReadBits4 u32x4Read w f r (ReadBits4.Short place) _ refl
+
 -- A string's body, seen by `skip`.
 module _ (width : ℕ) (s : List ℕ) (at : ℕ) (r : Skipped) (contract : skipped r ≡ block width s at) where
   pub body-read : (next : ℕ) → r ≡ Skipped.To next → fine (take width (drop at s)) next ≡ bytes width s at
@@ -103,6 +121,10 @@ pub ruleset reading = (
   f32-stops,
   bool-goes,
   bool-stops,
+  u32x3-goes,
+  u32x3-stops,
+  u32x4-goes,
+  u32x4-stops,
   skip-goes,
   skip-stops,
   string-goes,

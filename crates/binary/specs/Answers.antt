@@ -10,6 +10,10 @@ use Rattle.layout.specs.Walk
 use Rattle.layout.specs.Walk.{Walk, fine, refused, refusal, refusedAt}
 use Rattle.binary.specs.declared.counts.Refusal.{Refusal}
 use Rattle.binary.specs.declared.counts.ReadCount.{ReadCount}
+use Rattle.binary.specs.declared.groups.Bits3.{Bits3}
+use Rattle.binary.specs.declared.groups.Bits4.{Bits4}
+use Rattle.binary.specs.declared.groups.ReadBits3.{ReadBits3}
+use Rattle.binary.specs.declared.groups.ReadBits4.{ReadBits4}
 use Rattle.binary.specs.declared.numbers.ReadU8.{ReadU8}
 use Rattle.binary.specs.declared.numbers.ReadU32.{ReadU32}
 use Rattle.binary.specs.declared.numbers.ReadI32.{ReadI32}
@@ -38,6 +42,14 @@ abbrev pub boolRead : ReadBool → Walk Bool
 boolRead (ReadBool.Value b next) = fine b next
 boolRead (ReadBool.Short place) = refusedAt 1 place
 
+abbrev pub u32x3Read : ReadBits3 → Walk Bits3
+u32x3Read (ReadBits3.Value b next) = fine b next
+u32x3Read (ReadBits3.Short place) = refusedAt 1 place
+
+abbrev pub u32x4Read : ReadBits4 → Walk Bits4
+u32x4Read (ReadBits4.Value b next) = fine b next
+u32x4Read (ReadBits4.Short place) = refusedAt 1 place
+
 abbrev pub skipped : Skipped → Walk (Unit {0})
 skipped (Skipped.To next) = fine tt next
 skipped (Skipped.Short place) = refusedAt 1 place
@@ -51,6 +63,7 @@ because (Refusal.TooShort at) = refusal 1 (pos at ∷ [])
 because (Refusal.NegativeCount at) = refusal 2 (pos at ∷ [])
 because (Refusal.CountAboveLimit at) = refusal 20 (pos at ∷ [])
 because Refusal.TooLong = refusal 16 []
+because Refusal.Absent = refusal 19 []
 
 abbrev pub countRead : ReadCount → Walk ℕ
 countRead (ReadCount.Value n next) = fine n next

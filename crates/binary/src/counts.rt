@@ -5,7 +5,7 @@ ghost use Rattle.binary.specs.Answers.{countRead};
 use crate::numbers;
 use crate::numbers::ReadU32;
 
-// Why a section is not read (document 01, "Turned down"), each with its offset.
+// Why a call that reads a section gives no result (document 01, "Turned down"), with the offset where there is one.
 pub enum Refusal {
     // 1: a value does not fit in the bytes left.
     TooShort(usize),
@@ -15,6 +15,8 @@ pub enum Refusal {
     CountAboveLimit(usize),
     // 16: more bytes are lent than the limit.
     TooLong,
+    // 19: there is no record or name of that number.
+    Absent,
 }
 
 // The count and the position behind it.

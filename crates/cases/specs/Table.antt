@@ -2,7 +2,7 @@
 use Prim.Native.Nat.{ℕ}
 use mathlib.Core.List.{List, [], _∷_}
 use lib.IntN.{ℤ, pos}
-use Rattle.layout.specs.Walk.{Walk, fine, refused}
+use Rattle.layout.specs.Walk.{Answer, answered, declined}
 use Rattle.section.specs.Limits.{edition1}
 use Rattle.section.specs.Summary.{modelSummary}
 use Rattle.section.specs.declared.summary.PmmDocumentModelSummary.{PmmDocumentModelSummary}
@@ -13,13 +13,13 @@ pub data Outcome : Type 0 where
   reads : ℕ → ℕ → ℕ → ℕ → ℕ → Outcome
   refuses : ℕ → List ℤ → Outcome
 
-abbrev pub outcome : Walk PmmDocumentModelSummary → Outcome
-outcome (fine m end) =
+abbrev pub outcome : Answer PmmDocumentModelSummary → Outcome
+outcome (answered m) =
     reads (m .sections .«initial_bone_keyframes_offset») (m .sections .«bone_keyframes_offset»)
     (m .sections .«morph_keyframes_offset»)
     (m .sections .«model_keyframes_offset»)
-    end
-outcome (refused why) = refuses (why .number) (why .values)
+    (m .«offset_end»)
+outcome (declined why) = refuses (why .number) (why .values)
 
 pub record Case : Type 0 where
   pub section : List ℕ

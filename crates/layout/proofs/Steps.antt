@@ -8,7 +8,7 @@ use borrow.Author.Tests.{le-leb, lt-leb, lt-ltb, le-ltb}
 use lib.ListN.{length}
 use lib.Dec.{leb, ltb}
 use mathlib.Core.Bool.{Bool, true, false, cond}
-use Rattle.layout.specs.Walk.{Refusal, Walk, fine, refused, refusedAt, Reader, after, item, block, times}
+use Rattle.layout.specs.Walk.{Refusal, Walk, fine, refused, refusedAt, Reader, after, item, block, times, Answer, answered, declined, answer}
 
 module _ {A : Type 0} (width : ℕ) (value : List ℕ → ℕ → A) (s : List ℕ) (at : ℕ) where
   pub whole : at + width ≤ length s → item width value s at ≡ fine (value s at) (at + width)
@@ -45,6 +45,14 @@ module _ (A B R : Type 0) (says : R → Walk A) (w : Walk A) (f : A → ℕ → 
 
   pub stops : (why : Refusal) → says k ≡ refused why → says r ≡ w → r ≡ k → refused why ≡ after w f
   stops why case contract seen = rw (sym contract ∙ ap says seen ∙ case)
+
+-- The same where the walk is what a call answers.
+module _ (A B R : Type 0) (says : R → Walk A) (w : Walk A) (f : A → ℕ → Walk B) (r k : R) where
+  pub answers : (a : A) (next : ℕ) (v : Answer B) → says k ≡ fine a next → says r ≡ w → r ≡ k → v ≡ answer (f a next) → v ≡ answer (after w f)
+  answers a next v case contract seen rest = rw (sym contract ∙ ap says seen ∙ case) rest
+
+  pub declines : (why : Refusal) → says k ≡ refused why → says r ≡ w → r ≡ k → declined why ≡ answer (after w f)
+  declines why case contract seen = rw (sym contract ∙ ap says seen ∙ case)
 
 pub value-is : (A : Type 0) (a b : A) (next : ℕ) → a ≡ b → fine a next ≡ fine b next
 value-is A a b next e = rw e

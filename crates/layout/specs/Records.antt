@@ -27,6 +27,10 @@ bone = 16 ∷ replicate 3 4 ++ replicate 4 4 ++ 1 ∷ 1 ∷ []
 abbrev pub morph : List ℕ
 morph = 4 ∷ 1 ∷ []
 
+-- a model record's pair for an outside parent
+abbrev pub pair : List ℕ
+pair = 4 ∷ 4 ∷ []
+
 -- visible, a bool a constraint, a pair of i32 an outside parent, self shadow
 abbrev pub model : ℕ → ℕ → List ℕ
 model constraints parents = 1 ∷ (replicate constraints 1 ++ (replicate (2 * parents) 4 ++ 1 ∷ []))

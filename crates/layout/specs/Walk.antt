@@ -45,6 +45,15 @@ give a s at = fine a at
 abbrev pub here : Reader ℕ
 here s at = fine at at
 
+-- What a call answers: a value, or a refusal.
+pub data Answer (A : Type 0) : Type 0 where
+  answered : A → Answer A
+  declined : Refusal → Answer A
+
+abbrev pub answer : {A : Type 0} → Walk A → Answer A
+answer (fine a next) = answered a
+answer (refused why) = declined why
+
 -- A refusal whose one value is an offset.
 abbrev pub refusedAt : {A : Type 0} → ℕ → ℕ → Walk A
 refusedAt number at = refused (refusal number (pos at ∷ []))

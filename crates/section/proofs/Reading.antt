@@ -2,20 +2,18 @@
 -- returns. Assumes nothing.
 use Prim.Native.Nat.{ℕ}
 use mathlib.Core.Path.{_≡_, refl}
-use Rattle.layout.specs.Walk.{Walk, refused, after}
-use Rattle.layout.proofs.Steps.{goes, stops}
+use Rattle.layout.specs.Walk.{Walk, refused, after, Answer, declined, answer}
+use Rattle.layout.proofs.Steps.{goes, stops, answers, declines}
 use Rattle.binary.specs.Answers.{because}
 use Rattle.binary.specs.declared.counts.Refusal.{Refusal}
 use Rattle.binary.proofs.Reading as binary
-use Rattle.section.specs.Answers.{openingRead, namesRead, countsRead, fourBitsRead, viewRead, scrollRead, keyframesRead, keyframeBlocksRead, statesRead, endingRead, frontRead, modelRead}
+use Rattle.section.specs.Answers.{openingRead, namesRead, countsRead, viewRead, scrollRead, keyframesRead, keyframeBlocksRead, statesRead, endingRead, frontRead, modelRead}
 use Rattle.section.specs.declared.opening.Opening.{Opening}
 use Rattle.section.specs.declared.opening.ReadOpening.{ReadOpening}
 use Rattle.section.specs.declared.names.Names.{Names}
 use Rattle.section.specs.declared.names.ReadNames.{ReadNames}
 use Rattle.section.specs.declared.names.Counts.{Counts}
 use Rattle.section.specs.declared.names.ReadCounts.{ReadCounts}
-use Rattle.section.specs.declared.display.FourBits.{FourBits}
-use Rattle.section.specs.declared.display.ReadFourBits.{ReadFourBits}
 use Rattle.section.specs.declared.display.View.{View}
 use Rattle.section.specs.declared.display.ReadView.{ReadView}
 use Rattle.section.specs.declared.display.Scroll.{Scroll}
@@ -53,13 +51,6 @@ module _ (B : Type 0) (w : Walk Counts) (f : Counts → ℕ → Walk B) (r : Rea
 
   pub counts-stops : (why : Refusal) → countsRead r ≡ w → r ≡ ReadCounts.Refused why → refused (because why) ≡ after w f
   counts-stops why = stops Counts B ReadCounts countsRead w f r (ReadCounts.Refused why) (because why) refl
-
-module _ (B : Type 0) (w : Walk FourBits) (f : FourBits → ℕ → Walk B) (r : ReadFourBits) where
-  pub fourBits-goes : (x : FourBits) (next : ℕ) (v : Walk B) → fourBitsRead r ≡ w → r ≡ ReadFourBits.Read x next → v ≡ f x next → v ≡ after w f
-  fourBits-goes x next v = goes FourBits B ReadFourBits fourBitsRead w f r (ReadFourBits.Read x next) x next v refl
-
-  pub fourBits-stops : (why : Refusal) → fourBitsRead r ≡ w → r ≡ ReadFourBits.Refused why → refused (because why) ≡ after w f
-  fourBits-stops why = stops FourBits B ReadFourBits fourBitsRead w f r (ReadFourBits.Refused why) (because why) refl
 
 module _ (B : Type 0) (w : Walk View) (f : View → ℕ → Walk B) (r : ReadView) where
   pub view-goes : (x : View) (next : ℕ) (v : Walk B) → viewRead r ≡ w → r ≡ ReadView.Read x next → v ≡ f x next → v ≡ after w f
@@ -117,4 +108,11 @@ module _ (B : Type 0) (w : Walk Model) (f : Model → ℕ → Walk B) (r : ReadM
   pub model-stops : (why : Refusal) → modelRead r ≡ w → r ≡ ReadModel.Refused why → refused (because why) ≡ after w f
   model-stops why = stops Model B ReadModel modelRead w f r (ReadModel.Refused why) (because why) refl
 
-pub ruleset reading = (opening-goes, opening-stops, names-goes, names-stops, counts-goes, counts-stops, fourBits-goes, fourBits-stops, view-goes, view-stops, scroll-goes, scroll-stops, keyframes-goes, keyframes-stops, keyframeBlocks-goes, keyframeBlocks-stops, states-goes, states-stops, ending-goes, ending-stops, front-goes, front-stops, model-goes, model-stops, binary.reading)
+module _ (B : Type 0) (w : Walk Model) (f : Model → ℕ → Walk B) (r : ReadModel) where
+  pub model-answers : (x : Model) (next : ℕ) (v : Answer B) → modelRead r ≡ w → r ≡ ReadModel.Read x next → v ≡ answer (f x next) → v ≡ answer (after w f)
+  model-answers x next v = answers Model B ReadModel modelRead w f r (ReadModel.Read x next) x next v refl
+
+  pub model-declines : (why : Refusal) → modelRead r ≡ w → r ≡ ReadModel.Refused why → declined (because why) ≡ answer (after w f)
+  model-declines why = declines Model B ReadModel modelRead w f r (ReadModel.Refused why) (because why) refl
+
+pub ruleset reading = (opening-goes, opening-stops, names-goes, names-stops, counts-goes, counts-stops, view-goes, view-stops, scroll-goes, scroll-stops, keyframes-goes, keyframes-stops, keyframeBlocks-goes, keyframeBlocks-stops, states-goes, states-stops, ending-goes, ending-stops, front-goes, front-stops, model-goes, model-stops, binary.reading)

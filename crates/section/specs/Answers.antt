@@ -8,8 +8,6 @@ use Rattle.section.specs.declared.names.Names.{Names}
 use Rattle.section.specs.declared.names.ReadNames.{ReadNames}
 use Rattle.section.specs.declared.names.Counts.{Counts}
 use Rattle.section.specs.declared.names.ReadCounts.{ReadCounts}
-use Rattle.section.specs.declared.display.FourBits.{FourBits}
-use Rattle.section.specs.declared.display.ReadFourBits.{ReadFourBits}
 use Rattle.section.specs.declared.display.View.{View}
 use Rattle.section.specs.declared.display.ReadView.{ReadView}
 use Rattle.section.specs.declared.display.Scroll.{Scroll}
@@ -38,10 +36,6 @@ namesRead (ReadNames.Refused why) = refused (because why)
 abbrev pub countsRead : ReadCounts → Walk Counts
 countsRead (ReadCounts.Read x next) = fine x next
 countsRead (ReadCounts.Refused why) = refused (because why)
-
-abbrev pub fourBitsRead : ReadFourBits → Walk FourBits
-fourBitsRead (ReadFourBits.Read x next) = fine x next
-fourBitsRead (ReadFourBits.Refused why) = refused (because why)
 
 abbrev pub viewRead : ReadView → Walk View
 viewRead (ReadView.Read x next) = fine x next

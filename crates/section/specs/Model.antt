@@ -1,13 +1,16 @@
 -- Document 01, "Model section": what stands in it, in order. Definitions only. An i32 or f32 is kept as its 32 bits.
 use Prim.Native.Nat.{ℕ, _*_}
-use mathlib.Core.List.{List}
-use Rattle.layout.specs.Walk.{Reader, _>>=_, _>>_, give, here, u8, bool, u32, block, string, times, items, count, unlimited}
+use mathlib.Core.Bool.{cond}
+use mathlib.Core.List.{List, []}
+use lib.Dec.{ltb}
+use lib.ListN.{length}
+use Rattle.layout.specs.Walk.{Reader, _>>=_, _>>_, give, here, u8, bool, u32, block, string, times, items, count, unlimited, refused, refusal}
 use Rattle.layout.specs.Records.{initial, additional, bone, morph, model, boneState, morphState, constraintState, parentState}
+use Rattle.binary.specs.Groups.{u32x4}
 use Rattle.section.specs.Limits.{Limits}
 use Rattle.section.specs.declared.opening.Opening.{Opening}
 use Rattle.section.specs.declared.names.Names.{Names}
 use Rattle.section.specs.declared.names.Counts.{Counts}
-use Rattle.section.specs.declared.display.FourBits.{FourBits}
 use Rattle.section.specs.declared.display.View.{View}
 use Rattle.section.specs.declared.display.Scroll.{Scroll}
 use Rattle.section.specs.declared.keyframes.Keyframes.{Keyframes}
@@ -53,22 +56,13 @@ counts limits = do
   parents ← entries
   give (record { bones = bones; morphs = morphs; constraints = constraints; parents = parents })
 
--- "four selected morphs i32"
-unfoldable pub fourBits : Reader FourBits
-fourBits = do
-  a ← u32
-  b ← u32
-  c ← u32
-  d ← u32
-  give (record { 0 = a; 1 = b; 2 = c; 3 = d })
-
 -- "draw order u8; visible bool; selected bone i32; four selected morphs i32"
 unfoldable pub view : Reader View
 view = do
   order ← u8
   visible ← bool
   bone ← u32
-  morphs ← fourBits
+  morphs ← u32x4
   give (record { «draw_order_index» = order; visible = visible; «selected_bone» = bone; «selected_morphs» = morphs })
 
 -- "expansion count u8 and that many skipped bytes; vertical scroll i32; last frame i32"
@@ -131,11 +125,15 @@ ending = do
   order ← u8
   give (record { «blend_enabled» = blend; «edge_width» = edge; «self_shadow_enabled» = shadow; «transform_order_index» = order })
 
--- The whole section.
-unfoldable pub modelSection : Limits → Reader Model
-modelSection limits = do
+-- All of its parts.
+unfoldable pub modelParts : Limits → Reader Model
+modelParts limits = do
   f ← front limits
   k ← keyframeBlocks limits (f .counts)
   s ← states (f .counts)
   e ← ending
   give (record { front = f; keyframes = k; states = s; ending = e })
+
+-- The section. 16: more bytes are lent than the limit; tested first.
+unfoldable pub modelSection : Limits → Reader Model
+modelSection limits s start = cond (ltb (limits .length) (length s)) (refused (refusal 16 [])) (modelParts limits s start)

@@ -1,18 +1,15 @@
 -- Document 01, module 2: the Rust's summary of a model section, or the refusal. Definitions only.
 use Prim.Native.Nat.{ℕ}
-use mathlib.Core.Bool.{cond}
-use mathlib.Core.List.{[]}
-use lib.Dec.{ltb}
+use mathlib.Core.List.{List}
 use lib.IntN.{ℤ}
 use lib.Ieee.{ofBits, binary32}
-use lib.ListN.{length}
 use mir.Syntax.{w32}
 use mir.Val.{toZ}
-use Rattle.layout.specs.Walk.{Walk, fine, refused, refusal, Reader, after}
+use Rattle.layout.specs.Walk.{fine, after, Answer, answered, declined, answer}
 use Rattle.binary.specs.Answers.{because}
 use Rattle.section.specs.Limits.{Limits}
 use Rattle.section.specs.Model.{modelSection}
-use Rattle.section.specs.declared.display.FourBits.{FourBits}
+use Rattle.binary.specs.declared.groups.Bits4.{Bits4}
 use Rattle.section.specs.declared.model.Model.{Model}
 use Rattle.section.specs.declared.summary.PmmDocumentModelSections.{PmmDocumentModelSections}
 use Rattle.section.specs.declared.summary.SelectedMorphIndices.{SelectedMorphIndices}
@@ -44,7 +41,7 @@ sectionsOf m =
       «outside_parent_states_offset» = m .states .parents;
     }
 
-unfoldable pub indicesOf : FourBits → SelectedMorphIndices
+unfoldable pub indicesOf : Bits4 → SelectedMorphIndices
 indicesOf b = record { 0 = signed (b .0); 1 = signed (b .1); 2 = signed (b .2); 3 = signed (b .3) }
 
 -- The summary of a section that starts at `start` and ends at `end`.
@@ -78,12 +75,9 @@ summaryOf start m end =
       «self_shadow_enabled» = m .ending .«self_shadow_enabled»;
     }
 
--- 16 is tested first, then the section is read.
-unfoldable pub modelSummary : Limits → Reader PmmDocumentModelSummary
-modelSummary limits s start =
-    cond (ltb (limits .length) (length s)) (refused (refusal 16 []))
-    (after (modelSection limits s start) (λ m end. fine (summaryOf start m end) end))
+unfoldable pub modelSummary : Limits → List ℕ → ℕ → Answer PmmDocumentModelSummary
+modelSummary limits s start = answer (after (modelSection limits s start) (λ m end. fine (summaryOf start m end) end))
 
-abbrev pub modelSummaryRead : ModelSummary → Walk PmmDocumentModelSummary
-modelSummaryRead (ModelSummary.Read m) = fine m (m .«offset_end»)
-modelSummaryRead (ModelSummary.Refused why) = refused (because why)
+abbrev pub modelSummaryRead : ModelSummary → Answer PmmDocumentModelSummary
+modelSummaryRead (ModelSummary.Read m) = answered m
+modelSummaryRead (ModelSummary.Refused why) = declined (because why)

@@ -5,7 +5,6 @@ ghost use Rattle.layout.specs.Records.{boneState, morphState, constraintState, 
 ghost use Rattle.binary.specs.Answers.{skipped};
 ghost use Rattle.section.specs.Model.{states, ending};
 ghost use Rattle.section.specs.Answers.{statesRead, endingRead};
-use crate::items;
 use crate::names::Counts;
 use binary::counts::Refusal;
 use binary::numbers;
@@ -13,7 +12,7 @@ use binary::numbers::ReadBool;
 use binary::numbers::ReadU8;
 use binary::numbers::ReadU32;
 use binary::numbers::Skipped;
-use binary::records;
+use records::items;
 
 // The offset of each block of states.
 pub struct States {
@@ -43,25 +42,25 @@ pub enum ReadEnding {
 fn skip_bone_states(s: &[u8], at: usize, count: u32) -> Skipped
     ensures { λ r. ⌜ skipped r ≡ times count (items boneState) (now (s .entry)) at ⌝ }
 {
-    records::skip_records(s, at, count, items::bone_state_items())
+    binary::records::skip_records(s, at, count, items::bone_state_items())
 }
 
 fn skip_morph_states(s: &[u8], at: usize, count: u32) -> Skipped
     ensures { λ r. ⌜ skipped r ≡ times count (items morphState) (now (s .entry)) at ⌝ }
 {
-    records::skip_records(s, at, count, items::morph_state_items())
+    binary::records::skip_records(s, at, count, items::morph_state_items())
 }
 
 fn skip_constraint_states(s: &[u8], at: usize, count: u32) -> Skipped
     ensures { λ r. ⌜ skipped r ≡ times count (items constraintState) (now (s .entry)) at ⌝ }
 {
-    records::skip_records(s, at, count, items::constraint_state_items())
+    binary::records::skip_records(s, at, count, items::constraint_state_items())
 }
 
 fn skip_parent_states(s: &[u8], at: usize, count: u32) -> Skipped
     ensures { λ r. ⌜ skipped r ≡ times count (items parentState) (now (s .entry)) at ⌝ }
 {
-    records::skip_records(s, at, count, items::parent_state_items())
+    binary::records::skip_records(s, at, count, items::parent_state_items())
 }
 
 pub fn read_states(s: &[u8], at: usize, counts: Counts) -> ReadStates

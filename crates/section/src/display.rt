@@ -1,27 +1,23 @@
 // What the model shows: draw order, visibility, selections, expansion states, scroll position, last frame. An i32 is kept as
 // its 32 bits until the summary is made.
 ghost use mathlib.Core.Path.{_≡_};
-ghost use Rattle.section.specs.Model.{fourBits, view, scroll};
-ghost use Rattle.section.specs.Answers.{fourBitsRead, viewRead, scrollRead};
+ghost use Rattle.section.specs.Model.{view, scroll};
+ghost use Rattle.section.specs.Answers.{viewRead, scrollRead};
 use binary::counts::Refusal;
+use binary::groups;
+use binary::groups::Bits4;
+use binary::groups::ReadBits4;
 use binary::numbers;
 use binary::numbers::ReadBool;
 use binary::numbers::ReadU8;
 use binary::numbers::ReadU32;
 use binary::numbers::Skipped;
 
-pub struct FourBits(pub u32, pub u32, pub u32, pub u32);
-
-pub enum ReadFourBits {
-    Read(FourBits, usize),
-    Refused(Refusal),
-}
-
 pub struct View {
     pub draw_order_index: u8,
     pub visible: bool,
     pub selected_bone: u32,
-    pub selected_morphs: FourBits,
+    pub selected_morphs: Bits4,
 }
 
 pub enum ReadView {
@@ -39,24 +35,6 @@ pub enum ReadScroll {
     Refused(Refusal),
 }
 
-pub fn read_four_bits(s: &[u8], at: usize) -> ReadFourBits
-    ensures { λ r. ⌜ fourBitsRead r ≡ fourBits (now (s .entry)) at ⌝ }
-{
-    match numbers::read_u32_le(s, at) {
-        ReadU32::Short(place) => ReadFourBits::Refused(Refusal::TooShort(place)),
-        ReadU32::Value(a, at) => match numbers::read_u32_le(s, at) {
-            ReadU32::Short(place) => ReadFourBits::Refused(Refusal::TooShort(place)),
-            ReadU32::Value(b, at) => match numbers::read_u32_le(s, at) {
-                ReadU32::Short(place) => ReadFourBits::Refused(Refusal::TooShort(place)),
-                ReadU32::Value(c, at) => match numbers::read_u32_le(s, at) {
-                    ReadU32::Short(place) => ReadFourBits::Refused(Refusal::TooShort(place)),
-                    ReadU32::Value(d, next) => ReadFourBits::Read(FourBits(a, b, c, d), next),
-                },
-            },
-        },
-    }
-}
-
 pub fn read_view(s: &[u8], at: usize) -> ReadView
     ensures { λ r. ⌜ viewRead r ≡ view (now (s .entry)) at ⌝ }
 {
@@ -66,9 +44,9 @@ pub fn read_view(s: &[u8], at: usize) -> ReadView
             ReadBool::Short(place) => ReadView::Refused(Refusal::TooShort(place)),
             ReadBool::Value(visible, at) => match numbers::read_u32_le(s, at) {
                 ReadU32::Short(place) => ReadView::Refused(Refusal::TooShort(place)),
-                ReadU32::Value(selected_bone, at) => match read_four_bits(s, at) {
-                    ReadFourBits::Refused(why) => ReadView::Refused(why),
-                    ReadFourBits::Read(selected_morphs, next) => ReadView::Read(
+                ReadU32::Value(selected_bone, at) => match groups::read_u32x4_le(s, at) {
+                    ReadBits4::Short(place) => ReadView::Refused(Refusal::TooShort(place)),
+                    ReadBits4::Value(selected_morphs, next) => ReadView::Read(
                         View {
                             draw_order_index,
                             visible,

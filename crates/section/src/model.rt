@@ -1,6 +1,6 @@
 // A whole model section.
 ghost use mathlib.Core.Path.{_≡_};
-ghost use Rattle.section.specs.Model.{front, modelSection};
+ghost use Rattle.section.specs.Model.{front, modelParts, modelSection};
 ghost use Rattle.section.specs.Limits.{edition1};
 ghost use Rattle.section.specs.Answers.{frontRead, modelRead};
 use crate::closing;
@@ -75,8 +75,8 @@ pub fn read_front(s: &[u8], at: usize) -> ReadFront
     }
 }
 
-pub fn read_model(s: &[u8], at: usize) -> ReadModel
-    ensures { λ r. ⌜ modelRead r ≡ modelSection edition1 (now (s .entry)) at ⌝ }
+fn read_parts(s: &[u8], at: usize) -> ReadModel
+    ensures { λ r. ⌜ modelRead r ≡ modelParts edition1 (now (s .entry)) at ⌝ }
 {
     match read_front(s, at) {
         ReadFront::Refused(why) => ReadModel::Refused(why),
@@ -106,4 +106,13 @@ pub fn read_model(s: &[u8], at: usize) -> ReadModel
             }
         }
     }
+}
+
+pub fn read_model(s: &[u8], start: usize) -> ReadModel
+    ensures { λ r. ⌜ modelRead r ≡ modelSection edition1 (now (s .entry)) start ⌝ }
+{
+    if 16777215 < s.len() {
+        return ReadModel::Refused(Refusal::TooLong);
+    }
+    read_parts(s, start)
 }

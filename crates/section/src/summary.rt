@@ -3,11 +3,11 @@
 ghost use mathlib.Core.Path.{_≡_};
 ghost use Rattle.section.specs.Limits.{edition1};
 ghost use Rattle.section.specs.Summary.{sectionsOf, indicesOf, summaryOf, modelSummary, modelSummaryRead};
-use crate::display::FourBits;
 use crate::model;
 use crate::model::Model;
 use crate::model::ReadModel;
 use binary::counts::Refusal;
+use binary::groups::Bits4;
 use binary::numbers;
 
 pub struct PmmDocumentModelSections {
@@ -89,7 +89,7 @@ fn sections(m: Model) -> PmmDocumentModelSections
     }
 }
 
-fn selected_morph_indices(bits: FourBits) -> SelectedMorphIndices
+fn selected_morph_indices(bits: Bits4) -> SelectedMorphIndices
     ensures { λ r. ⌜ r ≡ indicesOf bits ⌝ }
 {
     SelectedMorphIndices(
@@ -150,9 +150,6 @@ fn summary(offset: usize, m: Model, offset_end: usize) -> PmmDocumentModelSummar
 pub fn read_document_model_summary(section: &[u8], start: usize) -> ModelSummary
     ensures { λ r. ⌜ modelSummaryRead r ≡ modelSummary edition1 (now (section .entry)) start ⌝ }
 {
-    if 16777215 < section.len() {
-        return ModelSummary::Refused(Refusal::TooLong);
-    }
     match model::read_model(section, start) {
         ReadModel::Refused(why) => ModelSummary::Refused(why),
         ReadModel::Read(m, end) => ModelSummary::Read(summary(start, m, end)),

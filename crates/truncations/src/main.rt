@@ -63,6 +63,7 @@ fn refused_at(answer: ModelSummary, place: usize) -> bool {
             Refusal::NegativeCount(_) => false,
             Refusal::CountAboveLimit(_) => false,
             Refusal::TooLong => false,
+            Refusal::Absent => false,
         },
     }
 }

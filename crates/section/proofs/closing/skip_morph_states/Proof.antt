@@ -1,6 +1,6 @@
 -- `skip_morph_states` meets its contract: the items are those that it hands on. Assumes nothing.
 use borrow.Author.Needs.{needs}
-use Rattle.section.proofs.Blocks.{skips-items}
+use Rattle.records.proofs.Reading.{skips-items}
 use Rattle.section.proofs.closing.skip_morph_states.Statement.{statement}
 use Rattle.section.proofs.closing.skip_morph_states.Tie as tie
 

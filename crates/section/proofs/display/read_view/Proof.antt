@@ -1,6 +1,6 @@
 -- `read_view` meets its contract: each return is where the walk goes on to or stops. Assumes nothing.
 use borrow.Author.Needs.{needs}
-use Rattle.section.proofs.Reading.{reading}
+use Rattle.binary.proofs.Reading.{reading}
 use Rattle.section.specs.Model.{view}
 use Rattle.section.proofs.display.read_view.Statement.{statement}
 use Rattle.section.proofs.display.read_view.Tie as tie
@@ -32,11 +32,11 @@ enum-known-place-3 c = search needs
 enum-known-selected-bone : tie.Need-enum-known-selected-bone
 enum-known-selected-bone c = search needs
 
-read-four-bits-requires : tie.Need-read-four-bits-requires
-read-four-bits-requires c κs = search needs
+read-u32x4-le-requires : tie.Need-read-u32x4-le-requires
+read-u32x4-le-requires c κs = search needs
 
-enum-known-why : tie.Need-enum-known-why
-enum-known-why c = search needs
+enum-known-place-4 : tie.Need-enum-known-place-4
+enum-known-place-4 c = search needs
 
 enum-known-selected-morphs : tie.Need-enum-known-selected-morphs
 enum-known-selected-morphs c = search needs
@@ -74,8 +74,8 @@ read-view-spec =
     read-u32-le-requires
     enum-known-place-3
     enum-known-selected-bone
-    read-four-bits-requires
-    enum-known-why
+    read-u32x4-le-requires
+    enum-known-place-4
     enum-known-selected-morphs
     returns
     returns-2

@@ -4,7 +4,7 @@ ghost use mathlib.Core.Path.{_≡_};
 ghost use mathlib.Core.List.{[], _∷_, _++_};
 ghost use Prim.Native.Nat.{_<_};
 ghost use lib.ListN.{replicate};
-ghost use Rattle.layout.specs.Records.{bone, morph, model, boneState, morphState, constraintState, parentState};
+ghost use Rattle.layout.specs.Records.{bone, morph, model, boneState, morphState, constraintState, parentState, pair};
 ghost use Rattle.binary.specs.Items.{widths};
 use binary::records::Items;
 use binary::records::Run;
@@ -45,7 +45,7 @@ pub fn morph_items(behind: u32) -> Items
 }
 
 // A model record has a bool for each constraint and a pair of i32 for each outside parent.
-pub(crate) fn model_items(behind: u32, constraints: u32, parents: u32) -> Items
+pub fn model_items(behind: u32, constraints: u32, parents: u32) -> Items
     requires { ⌜ parents < 2147483648 ⌝ }
     ensures { λ r. ⌜ widths r ≡ 4 ∷ (replicate behind 4 ++ model constraints parents) ⌝ }
 {
@@ -110,4 +110,11 @@ pub fn parent_state_items() -> Items
     ensures { λ r. ⌜ widths r ≡ parentState ⌝ }
 {
     state_items(4, 3, 0)
+}
+
+// The pair of i32 that a model record has for an outside parent.
+pub fn pair_items() -> Items
+    ensures { λ r. ⌜ widths r ≡ pair ⌝ }
+{
+    state_items(4, 1, 0)
 }

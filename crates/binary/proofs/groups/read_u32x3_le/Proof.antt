@@ -1,9 +1,9 @@
--- `read_four_bits` meets its contract: each return is where the walk goes on to or stops. Assumes nothing.
+-- `read_u32x3_le` meets its contract: each return is where the walk goes on to or stops. Assumes nothing.
 use borrow.Author.Needs.{needs}
 use Rattle.binary.proofs.Reading.{reading}
-use Rattle.section.specs.Model.{fourBits}
-use Rattle.section.proofs.display.read_four_bits.Statement.{statement}
-use Rattle.section.proofs.display.read_four_bits.Tie as tie
+use Rattle.binary.specs.Groups.{u32x3}
+use Rattle.binary.proofs.groups.read_u32x3_le.Statement.{statement}
+use Rattle.binary.proofs.groups.read_u32x3_le.Tie as tie
 
 read-u32-le-requires : tie.Need-read-u32-le-requires
 read-u32-le-requires c κs = search needs
@@ -32,37 +32,24 @@ enum-known-place-3 c = search needs
 enum-known-c : tie.Need-enum-known-c
 enum-known-c c = search needs
 
-read-u32-le-requires-4 : tie.Need-read-u32-le-requires-4
-read-u32-le-requires-4 c κs = search needs
-
-enum-known-place-4 : tie.Need-enum-known-place-4
-enum-known-place-4 c = search needs
-
-enum-known-d : tie.Need-enum-known-d
-enum-known-d c = search needs
-
 returns : tie.Need-returns
-unfolding fourBits
+unfolding u32x3
 returns c = search reading
 
 returns-2 : tie.Need-returns-2
-unfolding fourBits
+unfolding u32x3
 returns-2 c = search reading
 
 returns-3 : tie.Need-returns-3
-unfolding fourBits
+unfolding u32x3
 returns-3 c = search reading
 
 returns-4 : tie.Need-returns-4
-unfolding fourBits
+unfolding u32x3
 returns-4 c = search reading
 
-returns-5 : tie.Need-returns-5
-unfolding fourBits
-returns-5 c = search reading
-
-pub read-four-bits-spec : {M : Type 1} → statement M
-read-four-bits-spec =
+pub read-u32x3-le-spec : {M : Type 1} → statement M
+read-u32x3-le-spec =
     tie.close
     (tie.spec
     read-u32-le-requires
@@ -74,11 +61,7 @@ read-four-bits-spec =
     read-u32-le-requires-3
     enum-known-place-3
     enum-known-c
-    read-u32-le-requires-4
-    enum-known-place-4
-    enum-known-d
     returns
     returns-2
     returns-3
-    returns-4
-    returns-5)
+    returns-4)

@@ -1,0 +1,55 @@
+//! What the Rust and document 01 together ask of the answers to a case: the Rust says what is read and built, and the
+//! walk adds the number and the place where it only says no.
+
+use answers::{Model, Refusal, Strip, Track, Walked, model, strip, track, walk};
+use generate::{Case, Kind};
+
+pub struct Expected {
+    pub read: Result<Summary, Refusal>,
+    /// The strip call; none of a camera or light section.
+    pub strip: Option<Result<Strip, Refusal>>,
+    /// The Rust was not run, because it would reserve too much memory. The section cannot be read then.
+    pub set_apart: bool,
+}
+
+#[derive(Debug)]
+pub enum Summary {
+    Model(Box<Model>),
+    Track(Box<Track>),
+}
+
+/// An error tells that the Rust contradicts the walk, and so document 01.
+pub fn expected(case: &Case) -> Result<Expected, String> {
+    let Case { kind, section, start, .. } = case;
+    match kind {
+        Kind::Model => {
+            let walked = walk::model(section, *start);
+            let summary = read(&walked, || model::summary(section, *start), |summary| summary.offset_end as u64)?;
+            let strip = summary.as_ref().map_err(Refusal::clone).and_then(strip::strip);
+            let read = summary.map(|summary| Summary::Model(Box::new(model::model(&summary))));
+            Ok(Expected { read, strip: Some(strip), set_apart: walked.reserves_too_much() })
+        }
+        Kind::Camera => of_track(walk::camera(section, *start), || track::camera(section, *start)),
+        Kind::Light => of_track(walk::light(section, *start), || track::light(section, *start)),
+    }
+}
+
+fn of_track(walked: Walked, rust: impl Fn() -> Option<Track>) -> Result<Expected, String> {
+    let end = |track: &Track| track.scalars.iter().find(|(name, _)| *name == "offset_end").expect("a scalar").1;
+    let read = read(&walked, rust, end)?.map(|track| Summary::Track(Box::new(track)));
+    Ok(Expected { read, strip: None, set_apart: walked.reserves_too_much() })
+}
+
+/// The Rust's summary, or the refusal; also where the Rust reads what is above a limit.
+fn read<S>(
+    walked: &Walked,
+    rust: impl Fn() -> Option<S>,
+    end: impl Fn(&S) -> u64,
+) -> Result<Result<S, Refusal>, String> {
+    let summary = if walked.reserves_too_much() { None } else { rust() };
+    match (summary, &walked.end) {
+        (Some(summary), Ok(at)) if end(&summary) == *at => Ok(walked.answer().map(|_| summary)),
+        (None, Err(_)) => Ok(Err(walked.answer().expect_err("stopped"))),
+        (summary, walked) => Err(format!("the Rust ends at {:?}, the walk {walked:?}", summary.map(|s| end(&s)))),
+    }
+}

@@ -1,0 +1,63 @@
+//! `oracle self [CASES] [SEED]` runs the Rust on generated cases and counts what it met.
+//! `oracle case SEED NUMBER` shows one case and what is expected of it.
+
+use std::env;
+use std::process::ExitCode;
+use std::time::Instant;
+
+use generate::case;
+use run::expected::{Expected, Summary, expected};
+use run::tally::Tally;
+
+fn main() -> ExitCode {
+    let arguments: Vec<String> = env::args().skip(1).collect();
+    let number = |n: usize| arguments.get(n).and_then(|word| word.parse().ok());
+    match arguments.first().map(String::as_str) {
+        Some("self") => own(number(1).unwrap_or(100_000), number(2).unwrap_or(1)),
+        Some("case") => one(number(1).unwrap_or(1), number(2).unwrap_or(0)),
+        _ => {
+            eprintln!("oracle self [CASES] [SEED]\noracle case SEED NUMBER");
+            ExitCode::FAILURE
+        }
+    }
+}
+
+fn own(cases: u64, seed: u64) -> ExitCode {
+    println!("seed {seed}, {cases} cases");
+    let began = Instant::now();
+    let mut tally = Tally::default();
+    for number in 0..cases {
+        let (family, case) = case(seed, number);
+        tally.add(family, number, expected(&case));
+    }
+    print!("{tally}");
+    println!("{:.1} s", began.elapsed().as_secs_f64());
+    if tally.contradictions() == 0 { ExitCode::SUCCESS } else { ExitCode::FAILURE }
+}
+
+fn one(seed: u64, number: u64) -> ExitCode {
+    let (family, case) = case(seed, number);
+    println!("{family}: {:?}, {}", case.kind, case.label);
+    println!("start {}, {} bytes", case.start, case.section.len());
+    let hex = |bytes: &[u8]| bytes.iter().map(|byte| format!("{byte:02x}")).collect::<String>();
+    case.section.chunks(32).take(64).for_each(|line| println!("{}", hex(line)));
+    match expected(&case) {
+        Err(contradiction) => println!("{contradiction}"),
+        Ok(Expected { read, strip, set_apart }) => {
+            match read {
+                Ok(Summary::Model(model)) => println!("{model:?}"),
+                Ok(Summary::Track(track)) => println!("{track:?}"),
+                Err(refusal) => println!("not read: {refusal}"),
+            }
+            match strip {
+                Some(Ok(strip)) => println!("{strip:?}"),
+                Some(Err(refusal)) => println!("not built: {refusal}"),
+                None => (),
+            }
+            if set_apart {
+                println!("the Rust was not run");
+            }
+        }
+    }
+    ExitCode::SUCCESS
+}

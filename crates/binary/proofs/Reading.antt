@@ -98,6 +98,14 @@ module _ (B : Type 0) (w : Walk Bits4) (f : Bits4 → ℕ → Walk B) (r : ReadB
   pub u32x4-stops : (place : ℕ) → u32x4Read r ≡ w → r ≡ ReadBits4.Short place → refusedAt 1 place ≡ after w f
   u32x4-stops place = stops Bits4 B ReadBits4 u32x4Read w f r (ReadBits4.Short place) _ refl
 
+-- A block that ends the walk.
+module _ (w : Walk (Unit {0})) (r : Skipped) (contract : skipped r ≡ w) where
+  pub skip-ends : (next : ℕ) → r ≡ Skipped.To next → fine tt next ≡ w
+  skip-ends next seen = ap skipped (sym seen) ∙ contract
+
+  pub skip-lacks : (place : ℕ) → r ≡ Skipped.Short place → refusedAt 1 place ≡ w
+  skip-lacks place seen = ap skipped (sym seen) ∙ contract
+
 -- A string's body, seen by `skip`.
 module _ (width : ℕ) (s : List ℕ) (at : ℕ) (r : Skipped) (contract : skipped r ≡ block width s at) where
   pub body-read : (next : ℕ) → r ≡ Skipped.To next → fine (take width (drop at s)) next ≡ bytes width s at
@@ -131,7 +139,7 @@ pub ruleset reading = (
   string-stops,
   count-goes,
   count-stops,
-  body-read,
+  skip-ends, skip-lacks, body-read,
   body-lacked,
   value-is,
   signed-is,

@@ -11,8 +11,8 @@ use Rattle.layout.specs.Records.{size}
 use Rattle.layout.proofs.Sizes.{size-run}
 use Rattle.layout.proofs.Blocks.{place, runPlace, place-run, run-whole, run-short, pos-of-mul}
 use Rattle.binary.specs.Items.{widths, run, RunSize, PlaceInRun}
-use Rattle.binary.specs.declared.records.Run.{Run}
-use Rattle.binary.specs.declared.records.Items.{Items}
+use Rattle.binary.specs.declared.blocks.Run.{Run}
+use Rattle.binary.specs.declared.blocks.Items.{Items}
 
 pub run-small : (n width : ℕ) → n < 4294967296 → width < 256 → n * width < 1099511627776
 run-small n width few narrow = omega (arith, mul-le-mul-left {m = width} {n = 255} n (omega arith))

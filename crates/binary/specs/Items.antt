@@ -1,11 +1,11 @@
--- The items that `Items` of src/records.rt stands for, by their widths.
+-- The items that `Items` of src/blocks.rt stands for, by their widths.
 use Prim.Native.Nat.{ℕ, _*_, _<_, _≤_}
 use mathlib.Core.List.{List, [], _∷_, _++_}
 use mathlib.Core.Path.{_≡_}
 use lib.ListN.{replicate}
 use Rattle.layout.proofs.Blocks.{runPlace}
-use Rattle.binary.specs.declared.records.Run.{Run}
-use Rattle.binary.specs.declared.records.Items.{Items}
+use Rattle.binary.specs.declared.blocks.Run.{Run}
+use Rattle.binary.specs.declared.blocks.Items.{Items}
 
 -- The items of a run and those behind it.
 abbrev pub run : Run → List ℕ → List ℕ

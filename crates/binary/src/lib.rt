@@ -3,5 +3,5 @@
 pub mod counts;
 pub mod groups;
 pub mod numbers;
-pub mod records;
+pub mod blocks;
 pub mod strings;

@@ -6,7 +6,7 @@ use mathlib.Core.Path.{_≡_, refl, ap, _∙_}
 use Rattle.layout.specs.Walk.{Walk, refusedAt, after, times, items}
 use Rattle.layout.proofs.Steps.{goes, stops}
 use Rattle.binary.specs.Items.{widths}
-use Rattle.binary.specs.declared.records.Items.{Items}
+use Rattle.binary.specs.declared.blocks.Items.{Items}
 use Rattle.binary.proofs.Reading as binary
 use Rattle.records.specs.Answers.{baseRead, poseRead, boneRead, morphRead, modelRead, boneStateRead}
 use Rattle.records.specs.declared.base.BaseBits.{BaseBits}

@@ -6,8 +6,8 @@ ghost use Prim.Native.Nat.{_<_};
 ghost use lib.ListN.{replicate};
 ghost use Rattle.layout.specs.Records.{bone, morph, model, boneState, morphState, constraintState, parentState, pair};
 ghost use Rattle.binary.specs.Items.{widths};
-use binary::records::Items;
-use binary::records::Run;
+use binary::blocks::Items;
+use binary::blocks::Run;
 
 pub fn bone_items(behind: u32) -> Items
     ensures { λ r. ⌜ widths r ≡ 4 ∷ (replicate behind 4 ++ bone) ⌝ }

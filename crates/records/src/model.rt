@@ -14,7 +14,7 @@ use crate::items;
 use binary::numbers;
 use binary::numbers::ReadBool;
 use binary::numbers::Skipped;
-use binary::records;
+use binary::blocks;
 
 pub struct ModelBits {
     pub base: BaseBits,
@@ -48,13 +48,13 @@ pub struct PmmDocumentModelKeyframeSummary {
 fn skip_bools(s: &[u8], at: usize, count: u32) -> Skipped
     ensures { λ r. ⌜ skipped r ≡ times count (items constraintState) (now (s .entry)) at ⌝ }
 {
-    records::skip_records(s, at, count, items::constraint_state_items())
+    blocks::skip_records(s, at, count, items::constraint_state_items())
 }
 
 fn skip_pairs(s: &[u8], at: usize, count: u32) -> Skipped
     ensures { λ r. ⌜ skipped r ≡ times count (items pair) (now (s .entry)) at ⌝ }
 {
-    records::skip_records(s, at, count, items::pair_items())
+    blocks::skip_records(s, at, count, items::pair_items())
 }
 
 pub fn read_model_record(

@@ -4,7 +4,7 @@ use mathlib.Core.List.{List}
 use mathlib.Core.Path.{_≡_, _∙_}
 use Rattle.layout.specs.Walk.{Walk}
 use Rattle.binary.specs.Items.{widths}
-use Rattle.binary.specs.declared.records.Items.{Items}
+use Rattle.binary.specs.declared.blocks.Items.{Items}
 use Rattle.section.specs.Model.{keyframes}
 use Rattle.section.specs.declared.keyframes.Keyframes.{Keyframes}
 

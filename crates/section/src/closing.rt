@@ -6,6 +6,7 @@ ghost use Rattle.binary.specs.Answers.{skipped};
 ghost use Rattle.section.specs.Model.{states, ending};
 ghost use Rattle.section.specs.Answers.{statesRead, endingRead};
 use crate::names::Counts;
+use binary::blocks;
 use binary::counts::Refusal;
 use binary::numbers;
 use binary::numbers::ReadBool;
@@ -42,25 +43,25 @@ pub enum ReadEnding {
 fn skip_bone_states(s: &[u8], at: usize, count: u32) -> Skipped
     ensures { λ r. ⌜ skipped r ≡ times count (items boneState) (now (s .entry)) at ⌝ }
 {
-    binary::records::skip_records(s, at, count, items::bone_state_items())
+    blocks::skip_records(s, at, count, items::bone_state_items())
 }
 
 fn skip_morph_states(s: &[u8], at: usize, count: u32) -> Skipped
     ensures { λ r. ⌜ skipped r ≡ times count (items morphState) (now (s .entry)) at ⌝ }
 {
-    binary::records::skip_records(s, at, count, items::morph_state_items())
+    blocks::skip_records(s, at, count, items::morph_state_items())
 }
 
 fn skip_constraint_states(s: &[u8], at: usize, count: u32) -> Skipped
     ensures { λ r. ⌜ skipped r ≡ times count (items constraintState) (now (s .entry)) at ⌝ }
 {
-    binary::records::skip_records(s, at, count, items::constraint_state_items())
+    blocks::skip_records(s, at, count, items::constraint_state_items())
 }
 
 fn skip_parent_states(s: &[u8], at: usize, count: u32) -> Skipped
     ensures { λ r. ⌜ skipped r ≡ times count (items parentState) (now (s .entry)) at ⌝ }
 {
-    binary::records::skip_records(s, at, count, items::parent_state_items())
+    blocks::skip_records(s, at, count, items::parent_state_items())
 }
 
 pub fn read_states(s: &[u8], at: usize, counts: Counts) -> ReadStates

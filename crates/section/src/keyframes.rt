@@ -8,11 +8,12 @@ ghost use Rattle.section.specs.Model.{keyframes, keyframeBlocks};
 ghost use Rattle.section.specs.Limits.{edition1};
 ghost use Rattle.section.specs.Answers.{keyframesRead, keyframeBlocksRead};
 use crate::names::Counts;
+use binary::blocks;
 use binary::counts;
 use binary::counts::ReadCount;
 use binary::counts::Refusal;
 use binary::numbers::Skipped;
-use binary::records::Items;
+use binary::blocks::Items;
 use records::items;
 
 pub struct Keyframes {
@@ -49,11 +50,11 @@ pub fn read_keyframes(
 ) -> ReadKeyframes
     ensures { λ r. ⌜ keyframesRead r ≡ keyframes tracks (widths «initial_items») (widths «additional_items») limit (now (s .entry)) at ⌝ }
 {
-    match binary::records::skip_records(s, at, tracks, initial_items) {
+    match blocks::skip_records(s, at, tracks, initial_items) {
         Skipped::Short(place) => ReadKeyframes::Refused(Refusal::TooShort(place)),
         Skipped::To(count_offset) => match counts::read_count(s, count_offset, limit) {
             ReadCount::Refused(why) => ReadKeyframes::Refused(why),
-            ReadCount::Value(count, offset) => match binary::records::skip_records(
+            ReadCount::Value(count, offset) => match blocks::skip_records(
                 s,
                 offset,
                 count,

@@ -8,19 +8,18 @@ pub enum Kind {
     Morph,
 }
 
-/// A number of document 01 with the values that it names, in its order. 12, 13 and 14 say no kind.
+/// A number of document 01 with the values that it names, in its order; i32 as they are. 12, 13 and 14 say no kind.
 #[derive(Debug, Clone, PartialEq, Eq)]
 pub struct Refusal {
     pub number: u8,
     pub kind: Option<Kind>,
-    pub values: Vec<i64>,
+    pub values: Vec<i128>,
 }
 
 impl Refusal {
     /// A refusal with a place: 1, 2 and 20.
     pub fn at(number: u8, place: u64) -> Self {
-        let values = vec![i64::try_from(place).unwrap_or(i64::MAX)];
-        Self { number, kind: None, values }
+        Self { number, kind: None, values: vec![i128::from(place)] }
     }
 }
 
@@ -68,13 +67,13 @@ pub fn from_message(message: &str) -> Refusal {
 }
 
 /// 15 also tells the model's name, which can be any text: so this is read from its end.
-fn disconnected(message: &str, word: &str) -> Option<i64> {
+fn disconnected(message: &str, word: &str) -> Option<i128> {
     let end = format!(" disconnected additional {word} keyframe(s)");
     let (_, count) = message.strip_prefix("PMM model ")?.strip_suffix(&end)?.rsplit_once(" has ")?;
     count.parse().ok()
 }
 
-fn fit(pattern: &str, message: &str) -> Option<Vec<i64>> {
+fn fit(pattern: &str, message: &str) -> Option<Vec<i128>> {
     let mut pieces = pattern.split('#');
     let mut rest = message.strip_prefix(pieces.next()?)?;
     let mut values = Vec::new();

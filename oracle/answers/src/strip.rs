@@ -118,10 +118,10 @@ impl Chained {
     fn tracks(&self) -> Vec<u16> {
         let at: HashMap<i32, usize> = self.index.iter().copied().zip(0..).collect();
         let mut tracks = vec![0; self.index.len()];
-        for (first, number) in self.first.iter().zip(1..) {
+        for (number, first) in self.first.iter().enumerate() {
             let mut link = *first;
             while link != 0 {
-                tracks[at[&link]] = number;
+                tracks[at[&link]] = number as u16 + 1;
                 link = self.next[at[&link]];
             }
         }

@@ -178,3 +178,22 @@ impl<'a> Walk<'a> {
         self.item(state).map(drop)
     }
 }
+
+#[cfg(test)]
+mod tests {
+    use super::*;
+
+    /// What [`MOST_RESERVED`] says: the smallest records of each list, filling a section.
+    #[test]
+    fn sections_within_the_limits_reserve_less() {
+        let fill = |width: u64| LENGTH_LIMIT as u64 / width;
+        let counted = TRACK_LIMIT.max(ADDITIONAL_LIMIT) as usize;
+        let reserved = [
+            counted * size_of::<PmmDocumentBoneKeyframeSummary>(),
+            counted * size_of::<PmmDocumentMorphKeyframeSummary>(),
+            fill(18) as usize * size_of::<PmmDocumentModelKeyframeSummary>(),
+            fill(41) as usize * size_of::<PmmDocumentKeyframeSummary>(),
+        ];
+        assert!(reserved.iter().all(|bytes| (*bytes as u64) < MOST_RESERVED));
+    }
+}

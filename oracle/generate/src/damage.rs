@@ -40,7 +40,8 @@ pub fn damaged(prng: &Prng, seed: u64, turn: u64) -> Case {
     let (kind, Written { mut bytes, .. }) = small(seed, turn / SPAN);
     let place = (turn % SPAN) as usize % bytes.len();
     let old = bytes[place];
-    bytes[place] = prng.pick(&[!old, old ^ 1, old ^ 128, old.wrapping_add(1), 0, 255, prng.next() as u8]);
+    let any_other = old.wrapping_add(1 + prng.below(255) as u8);
+    bytes[place] = prng.pick(&[!old, old ^ 1, old ^ 128, old.wrapping_add(1), any_other]);
     let label = format!("byte {place} {} instead of {old}", bytes[place]);
     lent(prng, kind, label, bytes)
 }

@@ -1,12 +1,13 @@
 //! Sections at document 01's limits, and one step above them.
 
+use crate::damage::{damaged, miscounted, misplaced};
 use crate::prng::Prng;
 use crate::sound::{self, Sizes};
 use crate::{Case, Kind, lent};
 
 const LENGTH_LIMIT: usize = 16_777_215;
 
-pub const KINDS: u64 = 14;
+const KINDS: u64 = 14;
 
 pub fn large(prng: &Prng, _: u64, turn: u64) -> Case {
     let few = Sizes { bones: 2, morphs: 2, additional_bones: 9, additional_morphs: 9, loose_in: 6, ..Sizes::default() };
@@ -22,8 +23,8 @@ pub fn large(prng: &Prng, _: u64, turn: u64) -> Case {
         8 => ("65535 keys in a track", Sizes { morphs: 1, additional_morphs: 65_534, loose_in: 1 << 40, ..few }),
         9 => ("many constraints and parents", Sizes { constraints: 70_000, parents: 70_000, ..few }),
         10 => ("many model records", Sizes { constraints: 1, additional_models: 70_000, ..few }),
-        11 => ("16777215 bytes", few),
-        12 => ("16777216 bytes", few),
+        11 => return long(prng, LENGTH_LIMIT),
+        12 => return long(prng, LENGTH_LIMIT + 1),
         _ => ("16777215 bytes, most before the start", few),
     };
     let mut model = sound::model(prng, sizes, |_| Vec::new());
@@ -31,16 +32,19 @@ pub fn large(prng: &Prng, _: u64, turn: u64) -> Case {
         prng.shuffle(&mut model.bones.additional);
         prng.shuffle(&mut model.morphs.additional);
     }
-    let mut bytes = model.write().bytes;
-    let fill = LENGTH_LIMIT - bytes.len();
-    match turn % KINDS {
-        11 => bytes.resize(LENGTH_LIMIT, 1),
-        12 => bytes.resize(LENGTH_LIMIT + 1, 1),
-        13 => {
-            let section = [vec![1; fill], bytes].concat();
-            return Case { kind: Kind::Model, label: label.into(), section, start: fill as u64 };
-        }
-        _ => return lent(prng, Kind::Model, label.into(), bytes),
+    let bytes = model.write().bytes;
+    if turn % KINDS != 13 {
+        return lent(prng, Kind::Model, label.into(), bytes);
     }
-    Case { kind: Kind::Model, label: label.into(), section: bytes, start: 0 }
+    let before = vec![1; LENGTH_LIMIT - bytes.len()];
+    let start = before.len() as u64;
+    Case { kind: Kind::Model, label: label.into(), section: [before, bytes].concat(), start }
+}
+
+/// Any small section, whole or not, and bytes behind it.
+fn long(prng: &Prng, length: usize) -> Case {
+    let mut case = [damaged, misplaced, miscounted][prng.below(3)](prng, prng.next(), prng.next() >> 1);
+    case.section.resize(length, 1);
+    case.label = format!("{length} bytes, {}", case.label);
+    case
 }

@@ -48,8 +48,8 @@ const FAMILIES: [(&str, usize, Make); 13] = [
 ];
 const SHARES: usize = 26;
 
-/// Every so many cases one is large instead.
-const LARGE_EVERY: u64 = 3000;
+/// One in so many cases is large, besides the shares.
+const LARGE_EVERY: u64 = 1000;
 
 /// The family's name, and the case.
 pub fn case(seed: u64, number: u64) -> (&'static str, Case) {
@@ -57,6 +57,7 @@ pub fn case(seed: u64, number: u64) -> (&'static str, Case) {
     if number % LARGE_EVERY == LARGE_EVERY - 1 {
         return ("large", large::large(prng, seed, number / LARGE_EVERY));
     }
+    let number = number - number / LARGE_EVERY;
     let (round, mut share) = (number / SHARES as u64, number as usize % SHARES);
     for (name, shares, make) in FAMILIES {
         if share < shares {
@@ -199,16 +200,14 @@ mod tests {
     fn small_sections_are_truncated_everywhere() {
         let prng = &Prng::new(0, 0, 0);
         for section in 0..8 {
-            let turns = section * 1024..(section + 1) * 1024;
-            let mut lengths: Vec<usize> = turns.map(|turn| damage::truncated(prng, 3, turn).section.len()).collect();
+            let cut = |turn| damage::truncated(prng, 3, section * 1024 + turn).section.len();
+            let mut lengths: Vec<usize> = (0..1024).map(cut).collect();
             lengths.sort();
             lengths.dedup();
-            assert_eq!(lengths, (0..lengths.len()).collect::<Vec<_>>());
-            assert!(damage::truncated(prng, 3, section * 1024 + lengths.len() as u64 - 1).label.ends_with(&format!(
-                "{} bytes of {}",
-                lengths.len() - 1,
-                lengths.len() - 1
-            )));
+            let whole = lengths.len() - 1;
+            assert_eq!(lengths, (0..=whole).collect::<Vec<_>>());
+            let last = damage::truncated(prng, 3, section * 1024 + whole as u64);
+            assert_eq!(last.label, format!("{whole} bytes of {whole}"));
         }
     }
 }

@@ -42,9 +42,15 @@ impl Prng {
         self.u32().cast_signed()
     }
 
-    /// Any bytes, zeros among them more often than chance has it.
+    /// Any bytes, more often than chance has it zeros and the last bytes of infinities and NaNs.
     pub fn bytes(&self, n: usize) -> Vec<u8> {
-        (0..n).map(|_| if self.one_in(3) { 0 } else { self.next() as u8 }).collect()
+        let byte = |_| match self.below(12) {
+            0..4 => 0,
+            4 => 127,
+            5 => 255,
+            _ => self.next() as u8,
+        };
+        (0..n).map(byte).collect()
     }
 
     pub fn shuffle<T>(&self, list: &mut [T]) {

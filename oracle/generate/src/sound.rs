@@ -187,7 +187,7 @@ fn new_frame(prng: &Prng, taken: &mut HashSet<i32>) -> i32 {
         _ => taken.len() as i32 * 3,
     };
     while !taken.insert(frame) {
-        frame = frame.wrapping_add(1) & i32::MAX;
+        frame = prng.i32() & i32::MAX;
     }
     frame
 }

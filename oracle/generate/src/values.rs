@@ -102,7 +102,7 @@ fn orientation(prng: &Prng) -> [u32; 4] {
 /// A finite orientation whose squared length is at the limit, or a few steps above or below.
 pub fn orientation_at_the_limit(prng: &Prng) -> [u32; 4] {
     let step = |prng: &Prng, bits: u32| bits.wrapping_add_signed(prng.below(7) as i32 - 3);
-    let mut orientation = match prng.below(4) {
+    let mut orientation = match prng.below(6) {
         // 2^-12 twice is the limit itself
         0 => [0x3980_0000, 0x3980_0000, 0, 0],
         // 2^-12.5 four times, or 2^-11.5 once
@@ -191,5 +191,28 @@ impl Pose for Morph {
 
     fn spoil(&mut self, prng: &Prng, _number: u8) {
         self.weight = not_finite(prng);
+    }
+}
+
+#[cfg(test)]
+mod tests {
+    use super::*;
+
+    /// The limit is met from both sides and hit, often enough that another order of summation would be noticed.
+    #[test]
+    fn orientations_at_the_limit() {
+        let prng = &Prng::new(1, 1, 1);
+        let (mut below, mut at, mut above, mut by_order) = (0, 0, 0, 0);
+        for _ in 0..4000 {
+            let orientation = orientation_at_the_limit(prng);
+            let length = length_squared(orientation);
+            below += usize::from(length < f32::EPSILON);
+            at += usize::from(length == f32::EPSILON);
+            above += usize::from(length > f32::EPSILON);
+            let [x, y, z, w] = orientation.map(f32::from_bits);
+            let paired = (x * x + y * y) + (z * z + w * w);
+            by_order += usize::from((length > f32::EPSILON) != (paired > f32::EPSILON));
+        }
+        assert!([below, at, above, by_order].iter().all(|times| *times > 100));
     }
 }

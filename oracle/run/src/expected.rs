@@ -46,8 +46,10 @@ fn read<S>(
     rust: impl Fn() -> Option<S>,
     end: impl Fn(&S) -> u64,
 ) -> Result<Result<S, Refusal>, String> {
-    let summary = if walked.reserves_too_much() { None } else { rust() };
-    match (summary, &walked.end) {
+    if walked.reserves_too_much() {
+        return Ok(Err(walked.answer().expect_err("not read within the limits")));
+    }
+    match (rust(), &walked.end) {
         (Some(summary), Ok(at)) if end(&summary) == *at => Ok(walked.answer().map(|_| summary)),
         (None, Err(_)) => Ok(Err(walked.answer().expect_err("stopped"))),
         (summary, walked) => Err(format!("the Rust ends at {:?}, the walk {walked:?}", summary.map(|s| end(&s)))),

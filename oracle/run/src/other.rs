@@ -5,8 +5,9 @@ use generate::{Case, Kind};
 
 use crate::expected::{Expected, Summary, expected};
 
-/// Answers to be held against the Rust's. Names are the section's own bytes. The strip call is made with an output and
-/// work slices of the right lengths.
+/// Answers to be held against the Rust's. Names are the section's own bytes; scalars stand under the names and in the
+/// order that `answers` gives them (`flat!` makes such lists of any struct). The strip call is made with an output and
+/// work slices that are long enough, and its `Strip` holds them up to the lengths that count.
 pub trait Other {
     fn model(&self, section: &[u8], start: u64) -> Result<Model, Refusal>;
     fn camera(&self, section: &[u8], start: u64) -> Result<Track, Refusal>;

@@ -1,8 +1,8 @@
 -- `record_size` meets its contract. Assumes nothing.
 use borrow.Author.Needs.{needs}
 use Rattle.binary.proofs.Runs.{size-of}
-use Rattle.binary.proofs.records.record_size.Statement.{statement}
-use Rattle.binary.proofs.records.record_size.Tie as tie
+use Rattle.binary.proofs.blocks.record_size.Statement.{statement}
+use Rattle.binary.proofs.blocks.record_size.Tie as tie
 
 cast-first : tie.Need-cast-first
 cast-first c = search needs

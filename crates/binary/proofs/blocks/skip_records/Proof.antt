@@ -5,8 +5,8 @@ use native.Mathlib.Nat.{div-mul-le-self}
 use native.Mathlib.Omega.{arith}
 use lib.ListN.{length}
 use Rattle.binary.proofs.Skips.{skip-none, skip-past, skip-empty, skip-whole, skip-short, fits-in, place-in}
-use Rattle.binary.proofs.records.skip_records.Statement.{statement}
-use Rattle.binary.proofs.records.skip_records.Tie as tie
+use Rattle.binary.proofs.blocks.skip_records.Statement.{statement}
+use Rattle.binary.proofs.blocks.skip_records.Tie as tie
 
 returns : tie.Need-returns
 returns c = search skip-none

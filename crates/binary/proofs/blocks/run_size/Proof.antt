@@ -3,8 +3,8 @@ use borrow.Author.Needs.{needs}
 use native.Mathlib.Omega.{arith}
 use mathlib.Core.Path.{refl}
 use Rattle.binary.proofs.Runs.{run-small}
-use Rattle.binary.proofs.records.run_size.Statement.{statement}
-use Rattle.binary.proofs.records.run_size.Tie as tie
+use Rattle.binary.proofs.blocks.run_size.Statement.{statement}
+use Rattle.binary.proofs.blocks.run_size.Tie as tie
 
 cast-result : tie.Need-cast-result
 cast-result c = search needs

@@ -2,8 +2,8 @@
 use borrow.Author.Needs.{needs}
 use native.Mathlib.Omega.{arith}
 use Rattle.binary.proofs.Runs.{place-of, first-short}
-use Rattle.binary.proofs.records.place_in_record.Statement.{statement}
-use Rattle.binary.proofs.records.place_in_record.Tie as tie
+use Rattle.binary.proofs.blocks.place_in_record.Statement.{statement}
+use Rattle.binary.proofs.blocks.place_in_record.Tie as tie
 
 cast-first : tie.Need-cast-first
 cast-first c = search needs

@@ -3,8 +3,8 @@ use borrow.Author.Needs.{needs}
 use native.Mathlib.Omega.{arith}
 use native.Mathlib.Nat.{div-mul-le-self}
 use Rattle.binary.proofs.Runs.{in-run-past, in-run-short, in-run-some}
-use Rattle.binary.proofs.records.place_in_run.Statement.{statement}
-use Rattle.binary.proofs.records.place_in_run.Tie as tie
+use Rattle.binary.proofs.blocks.place_in_run.Statement.{statement}
+use Rattle.binary.proofs.blocks.place_in_run.Tie as tie
 
 run-size-requires : tie.Need-run-size-requires
 run-size-requires c κs = search needs

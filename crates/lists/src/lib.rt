@@ -1,0 +1,3 @@
+// Document 01, module 2: the lists of a model section's summary, each entry by its number from 0. Every call reads the section
+// again, because it trusts no caller; that takes time in the number of names, whatever the number of records.
+pub mod lists;

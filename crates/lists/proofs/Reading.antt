@@ -1,14 +1,17 @@
 -- How a walk goes on after an entry was looked for. Assumes nothing.
 use Prim.Native.Nat.{ℕ}
-use mathlib.Core.List.{List}
+use mathlib.Core.List.{List as ListOf}
 use mathlib.Core.Path.{_≡_, refl, ap, _∙_}
-use Rattle.layout.specs.Walk.{Walk, refused, after, Answer, declined, answer}
+use Rattle.layout.specs.Walk
+use Rattle.layout.specs.Walk.{Walk, fine, refused, Reader, after, answered, declined}
 use Rattle.layout.proofs.Steps.{goes, stops, answers, declines}
 use Rattle.binary.specs.Answers.{because}
 use Rattle.binary.specs.declared.counts.Refusal.{Refusal}
 use Rattle.section.specs.declared.model.Model.{Model}
-use Rattle.lists.specs.Lists.{Listed, entryAt}
+use Rattle.lists.specs.Lists.{Listed, entryAt, locate, nth}
 use Rattle.lists.specs.Answers.{entryRead, locatedRead}
+use Rattle.section.specs.Limits.{Limits}
+use Rattle.lists.specs.declared.lists.List.{List}
 use Rattle.lists.specs.declared.lists.ReadEntry.{ReadEntry}
 use Rattle.lists.specs.declared.lists.Located.{Located}
 
@@ -19,13 +22,22 @@ module _ (B : Type 0) (w : Walk (Unit {0})) (f : Unit {0} → ℕ → Walk B) (r
   pub entry-stops : (why : Refusal) → entryRead r ≡ w → r ≡ ReadEntry.Refused why → refused (because why) ≡ after w f
   entry-stops why = stops (Unit {0}) B ReadEntry entryRead w f r (ReadEntry.Refused why) (because why) refl
 
-module _ (B : Type 0) (w : Walk Model) (f : Model → ℕ → Walk B) (r : Located) where
-  pub located-answers : (m : Model) (at : ℕ) (v : Answer B) → locatedRead r ≡ w → r ≡ Located.At m at → v ≡ answer (f m at) → v ≡ answer (after w f)
-  located-answers m at v = answers Model B Located locatedRead w f r (Located.At m at) m at v refl
-
-  pub located-declines : (why : Refusal) → locatedRead r ≡ w → r ≡ Located.Refused why → declined (because why) ≡ answer (after w f)
-  located-declines why = declines Model B Located locatedRead w f r (Located.Refused why) (because why) refl
-
 -- A list that was worked out by a call.
-pub same-entry : (x : Walk (Unit {0})) (e d : Listed) (k : ℕ) (s : List ℕ) → x ≡ entryAt e k s → e ≡ d → x ≡ entryAt d k s
+pub same-entry : (x : Walk (Unit {0})) (e d : Listed) (k : ℕ) (s : ListOf ℕ) → x ≡ entryAt e k s → e ≡ d → x ≡ entryAt d k s
 same-entry x e d k s found is = found ∙ ap (λ (e : Listed). entryAt e k s) is
+
+-- What a call answers of an entry, by where it stops: at the place, in the entry, or nowhere. r is what `locate` answered, q what
+-- reading the entry answered, through the definition `says` of its cases.
+module _ {A B : Type 0} (limits : Limits) (list : List) (k : ℕ) (bits : Model → Reader A) (summary : Model → ℕ → A → ℕ → B) (s : ListOf ℕ) (start : ℕ) (r : Located) (placed : locatedRead r ≡ locate limits list k s start) where
+  pub nth-unlocated : (why : Refusal) → r ≡ Located.Refused why → declined (because why) ≡ nth limits list k bits summary s start
+  unfolding nth
+  nth-unlocated why seen = declines Model B Located locatedRead _ _ r (Located.Refused why) (because why) refl placed seen
+
+  module _ {Q : Type 0} (m : Model) (at : ℕ) (seen : r ≡ Located.At m at) (says : Q → Walk A) (q case : Q) (read : says q ≡ bits m s at) (came : q ≡ case) where
+    pub nth-short : (why : Walk.Refusal) → says case ≡ refused why → declined why ≡ nth limits list k bits summary s start
+    unfolding nth
+    nth-short why is = answers Model B Located locatedRead _ _ r (Located.At m at) m at _ refl placed seen (declines A B Q says _ _ q case why is read came)
+
+    pub nth-read : (a : A) (end : ℕ) (v : B) → says case ≡ fine a end → v ≡ summary m at a end → answered v ≡ nth limits list k bits summary s start
+    unfolding nth
+    nth-read a end v is made = answers Model B Located locatedRead _ _ r (Located.At m at) m at _ refl placed seen (answers A B Q says _ _ q case a end _ is read came (ap answered made))

@@ -1,2 +1,4 @@
 pub mod Lists
+pub mod Keyframes
+pub mod States
 pub mod Answers

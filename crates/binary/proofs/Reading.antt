@@ -106,6 +106,14 @@ module _ (w : Walk (Unit {0})) (r : Skipped) (contract : skipped r ≡ w) where
   pub skip-lacks : (place : ℕ) → r ≡ Skipped.Short place → refusedAt 1 place ≡ w
   skip-lacks place seen = ap skipped (sym seen) ∙ contract
 
+-- A bool that ends it.
+module _ (w : Walk Bool) (r : ReadBool) (contract : boolRead r ≡ w) where
+  pub bool-ends : (b : Bool) (next : ℕ) → r ≡ ReadBool.Value b next → fine b next ≡ w
+  bool-ends b next seen = ap boolRead (sym seen) ∙ contract
+
+  pub bool-lacks : (place : ℕ) → r ≡ ReadBool.Short place → refusedAt 1 place ≡ w
+  bool-lacks place seen = ap boolRead (sym seen) ∙ contract
+
 -- A string's body, seen by `skip`.
 module _ (width : ℕ) (s : List ℕ) (at : ℕ) (r : Skipped) (contract : skipped r ≡ block width s at) where
   pub body-read : (next : ℕ) → r ≡ Skipped.To next → fine (take width (drop at s)) next ≡ bytes width s at
@@ -139,7 +147,7 @@ pub ruleset reading = (
   string-stops,
   count-goes,
   count-stops,
-  skip-ends, skip-lacks, body-read,
+  skip-ends, skip-lacks, bool-ends, bool-lacks, body-read,
   body-lacked,
   value-is,
   signed-is,

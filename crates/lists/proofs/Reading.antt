@@ -7,6 +7,7 @@ use Rattle.layout.specs.Walk.{Walk, fine, refused, Reader, after, answered, dec
 use Rattle.layout.proofs.Steps.{goes, stops, answers, declines}
 use Rattle.binary.specs.Answers.{because}
 use Rattle.binary.specs.declared.counts.Refusal.{Refusal}
+use Rattle.records.proofs.Reading as records
 use Rattle.section.specs.declared.model.Model.{Model}
 use Rattle.lists.specs.Lists.{Listed, entryAt, locate, nth}
 use Rattle.lists.specs.Answers.{entryRead, locatedRead}
@@ -41,3 +42,5 @@ module _ {A B : Type 0} (limits : Limits) (list : List) (k : ℕ) (bits : Model 
     pub nth-read : (a : A) (end : ℕ) (v : B) → says case ≡ fine a end → v ≡ summary m at a end → answered v ≡ nth limits list k bits summary s start
     unfolding nth
     nth-read a end v is made = answers Model B Located locatedRead _ _ r (Located.At m at) m at _ refl placed seen (answers A B Q says _ _ q case a end _ is read came (ap answered made))
+
+pub ruleset reading = (entry-goes, entry-stops, records.reading)

@@ -9,6 +9,12 @@ use Rattle.lists.specs.Lists.{Listed, listed}
 use Rattle.lists.specs.declared.lists.Entries.{Entries}
 use Rattle.lists.specs.declared.lists.ReadEntry.{ReadEntry}
 use Rattle.lists.specs.declared.lists.Located.{Located}
+use Rattle.lists.specs.declared.model_lists.ReadFlag.{ReadFlag}
+use Rattle.lists.specs.declared.model_lists.PairBits.{PairBits}
+use Rattle.lists.specs.declared.model_lists.ReadPair.{ReadPair}
+use Rattle.lists.specs.declared.model_lists.PmmDocumentOutsideParentIndexSummary.{PmmDocumentOutsideParentIndexSummary}
+use Rattle.lists.specs.declared.model_lists.ModelFlag.{ModelFlag}
+use Rattle.lists.specs.declared.model_lists.ModelPair.{ModelPair}
 use Rattle.records.specs.declared.bone.PmmDocumentBoneKeyframeSummary.{PmmDocumentBoneKeyframeSummary}
 use Rattle.lists.specs.declared.keyframes.BoneKeyframe.{BoneKeyframe}
 use Rattle.records.specs.declared.morph.PmmDocumentMorphKeyframeSummary.{PmmDocumentMorphKeyframeSummary}
@@ -60,3 +66,19 @@ constraintStateRead (ConstraintState.Refused why) = declined (because why)
 abbrev pub outsideParentStateRead : OutsideParentState → Answer PmmDocumentOutsideParentStateSummary
 outsideParentStateRead (OutsideParentState.Read x) = answered x
 outsideParentStateRead (OutsideParentState.Refused why) = declined (because why)
+
+abbrev pub flagRead : ReadFlag → Walk Bool
+flagRead (ReadFlag.Read x next) = fine x next
+flagRead (ReadFlag.Refused why) = refused (because why)
+
+abbrev pub pairRead : ReadPair → Walk PairBits
+pairRead (ReadPair.Read x next) = fine x next
+pairRead (ReadPair.Refused why) = refused (because why)
+
+abbrev pub modelFlagRead : ModelFlag → Answer Bool
+modelFlagRead (ModelFlag.Read x) = answered x
+modelFlagRead (ModelFlag.Refused why) = declined (because why)
+
+abbrev pub modelPairRead : ModelPair → Answer PmmDocumentOutsideParentIndexSummary
+modelPairRead (ModelPair.Read x) = answered x
+modelPairRead (ModelPair.Refused why) = declined (because why)

@@ -3,4 +3,5 @@
 // number of names, whatever the number of records.
 pub mod keyframes;
 pub mod lists;
+pub mod model_lists;
 pub mod states;

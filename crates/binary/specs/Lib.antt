@@ -1,3 +1,4 @@
 pub mod Groups
 pub mod Answers
 pub mod Items
+pub mod Zero

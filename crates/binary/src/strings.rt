@@ -1,6 +1,9 @@
-// Strings at a position: a length byte and as many bytes.
+// Strings at a position: a length byte and as many bytes, or a field of fixed width.
 ghost use mathlib.Core.Path.{_≡_};
-ghost use Rattle.layout.specs.Walk.{string, times};
+ghost use Prim.Native.Nat.{_+_, _≤_};
+ghost use lib.ListN.{length, take, drop};
+ghost use Rattle.layout.specs.Walk.{string, fixedString, times};
+ghost use Rattle.binary.specs.Zero.{EndsAt};
 ghost use Rattle.binary.specs.Answers.{stringRead, skipped};
 use crate::numbers;
 use crate::numbers::ReadU8;
@@ -32,6 +35,39 @@ pub fn read_variable_string(s: &[u8], at: usize) -> ReadString
             }
         }
         ReadU8::Short(place) => ReadString::Short(place),
+    }
+}
+
+// How many of the `width` bytes at a position stand before the first zero byte.
+fn before_zero(s: &[u8], at: usize, width: usize) -> usize
+    requires { ⌜ at + width ≤ length (now s) ⌝ }
+    ensures { λ r. ⌜ EndsAt (take width (drop at (now (s .entry)))) r ⌝ }
+{
+    let mut i = 0;
+    while i < width {
+        if s[at + i] == 0 {
+            return i;
+        }
+        i = i + 1;
+    }
+    i
+}
+
+// A field of `width` bytes ends before its first zero byte, if it has one.
+pub fn read_fixed_string(s: &[u8], at: usize, width: usize) -> ReadString
+    ensures { λ r. ⌜ stringRead (now (s .entry)) r ≡ fixedString width (now (s .entry)) at ⌝ }
+{
+    if s.len() < at {
+        return ReadString::Short(at);
+    }
+    if s.len() - at < width {
+        return ReadString::Short(at);
+    }
+    let length = before_zero(s, at, width);
+    ReadString::Bytes {
+        start: at,
+        length,
+        next: at + width,
     }
 }
 

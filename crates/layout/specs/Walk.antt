@@ -103,6 +103,14 @@ string = do
   width ← u8
   bytes width
 
+-- A fixed field: `width` bytes, "ending before its first zero byte if it has one".
+unfoldable pub beforeZero : List ℕ → List ℕ
+beforeZero [] = []
+beforeZero (b ∷ bs) = cond (eqb b 0) [] (b ∷ beforeZero bs)
+
+abbrev pub fixedString : ℕ → Reader (List ℕ)
+fixedString width = item width (λ s at. beforeZero (take width (drop at s)))
+
 -- The same reader n times.
 unfoldable pub times : {A : Type 0} → ℕ → Reader A → Reader (Unit {0})
 times zero m = give tt

@@ -114,6 +114,14 @@ module _ (w : Walk Bool) (r : ReadBool) (contract : boolRead r ≡ w) where
   pub bool-lacks : (place : ℕ) → r ≡ ReadBool.Short place → refusedAt 1 place ≡ w
   bool-lacks place seen = ap boolRead (sym seen) ∙ contract
 
+-- A string that ends it.
+module _ (s : List ℕ) (w : Walk (List ℕ)) (r : ReadString) (contract : stringRead s r ≡ w) where
+  pub string-ends : (start size next : ℕ) → r ≡ ReadString.Bytes start size next → fine (take size (drop start s)) next ≡ w
+  string-ends start size next seen = ap (stringRead s) (sym seen) ∙ contract
+
+  pub string-lacks : (place : ℕ) → r ≡ ReadString.Short place → refusedAt 1 place ≡ w
+  string-lacks place seen = ap (stringRead s) (sym seen) ∙ contract
+
 -- A string's body, seen by `skip`.
 module _ (width : ℕ) (s : List ℕ) (at : ℕ) (r : Skipped) (contract : skipped r ≡ block width s at) where
   pub body-read : (next : ℕ) → r ≡ Skipped.To next → fine (take width (drop at s)) next ≡ bytes width s at
@@ -147,7 +155,7 @@ pub ruleset reading = (
   string-stops,
   count-goes,
   count-stops,
-  skip-ends, skip-lacks, bool-ends, bool-lacks, body-read,
+  skip-ends, skip-lacks, bool-ends, bool-lacks, string-ends, string-lacks, body-read,
   body-lacked,
   value-is,
   signed-is,

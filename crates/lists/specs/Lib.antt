@@ -2,4 +2,6 @@ pub mod Lists
 pub mod Keyframes
 pub mod ModelLists
 pub mod States
+pub mod Texts
+pub mod Parts
 pub mod Answers

@@ -4,4 +4,6 @@
 pub mod keyframes;
 pub mod lists;
 pub mod model_lists;
+pub mod parts;
 pub mod states;
+pub mod texts;

@@ -1,12 +1,13 @@
 -- From a walk that went well back to its steps. Assumes nothing.
-use Prim.Native.Nat.{ℕ, _≤_, _<_, _^_}
+use Prim.Native.Nat.{ℕ, _+_, _≤_, _<_, _^_}
 use mathlib.Core.Bool.{Bool, true, false, cond}
 use mathlib.Core.List.{List}
 use mathlib.Core.Path.{_≡_, refl, sym, subst, _∙_}
 use native.Mathlib.Omega.{arith}
 use borrow.Author.Tests.{leb-true, leb-false, ltb-true, ltb-false}
 use lib.Dec.{leb, ltb}
-use Rattle.layout.specs.Walk.{Refusal, Walk, fine, refused, refusedAt, Reader, after, u32, count}
+use lib.ListN.{length}
+use Rattle.layout.specs.Walk.{Refusal, Walk, fine, refused, refusedAt, Reader, after, item, u32, count}
 
 -- The step in front, and what follows it.
 pub record Came {A B : Type 0} (w : Walk A) (f : A → ℕ → Walk B) (b : B) (next : ℕ) : Type 0 where
@@ -41,3 +42,12 @@ counted limit s at n next e =
         let low = leb-false (2 ^ 31) m h in
         let under = ltb-false limit m a in
         record { positive = omega arith; within = omega arith }
+
+-- An item that was read is whole.
+pub item-fits : {A : Type 0} (width : ℕ) (value : List ℕ → ℕ → A) (s : List ℕ) (at : ℕ) (a : A) (next : ℕ) → item width value s at ≡ fine a next → at + width ≤ length s
+unfolding item
+item-fits {A} width value s at a next e = go (leb (at + width) (length s)) refl e
+  where
+    go : (b : Bool) → leb (at + width) (length s) ≡ b → cond b (fine (value s at) (at + width)) (refusedAt 1 at) ≡ fine a next → at + width ≤ length s
+    go true test e = leb-true (at + width) (length s) test
+    go false test e = absurd (let z : _≡_ {A = ℕ} 0 1 = cc in omega arith)

@@ -10,6 +10,7 @@ use Rattle.records.specs.declared.base.Span.{Span}
 use Rattle.section.specs.declared.model.Model.{Model}
 use Rattle.lists.specs.Answers.{textRead}
 use Rattle.lists.specs.Parts.{partOr, payloadOr}
+use Rattle.lists.specs.Interpolation.{curvesOr}
 use Rattle.lists.specs.Texts.{foundOf, textAt}
 use Rattle.lists.specs.declared.texts.ReadText.{ReadText}
 use Rattle.lists.specs.declared.texts.Text.{Text}
@@ -40,3 +41,7 @@ module _ (x y : Answer (List ℕ)) (contract : y ≡ x) where
 
   pub part-some : (part p : List ℕ) → y ≡ answered p → part ≡ p → part ≡ partOr x
   part-some part p seen is = is ∙ ap partOr (sym seen ∙ contract)
+
+-- The curves that an answer names.
+pub curves-from : (x a : Answer ℕ) (s : List ℕ) (r : List (List ℕ)) → a ≡ x → r ≡ curvesOr a s → r ≡ curvesOr x s
+curves-from x a s r is e = e ∙ ap (λ (a : Answer ℕ). curvesOr a s) is

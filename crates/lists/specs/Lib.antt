@@ -1,5 +1,6 @@
 pub mod Lists
 pub mod Keyframes
+pub mod Interpolation
 pub mod ModelLists
 pub mod States
 pub mod Texts

@@ -1,5 +1,6 @@
 pub mod Base
 pub mod Pose
+pub mod Curves
 pub mod Keyframes
 pub mod States
 pub mod Answers

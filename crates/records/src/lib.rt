@@ -2,6 +2,7 @@
 // an i32 or f32 as its 32 bits; its summary, as the Rust has it, is made of these.
 pub mod base;
 pub mod bone;
+pub mod curves;
 pub mod items;
 pub mod model;
 pub mod morph;

@@ -54,6 +54,11 @@ abbrev pub answer : {A : Type 0} → Walk A → Answer A
 answer (fine a next) = answered a
 answer (refused why) = declined why
 
+-- What a call answers of an entry of a section: where it stands is found, it is read there, and its summary is made of its bits, its
+-- offset and its end.
+unfoldable pub entryOf : {M A B : Type 0} → Walk M → (M → Reader A) → (M → ℕ → A → ℕ → B) → List ℕ → Answer B
+entryOf found bits summary s = answer (after found (λ m at. after (bits m s at) (λ b end. fine (summary m at b end) end)))
+
 -- A refusal whose one value is an offset.
 abbrev pub refusedAt : {A : Type 0} → ℕ → ℕ → Walk A
 refusedAt number at = refused (refusal number (pos at ∷ []))

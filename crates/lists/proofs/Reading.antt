@@ -4,7 +4,8 @@ use mathlib.Core.List.{List as ListOf}
 use mathlib.Core.Path.{_≡_, refl, ap, _∙_}
 use Rattle.layout.specs.Walk
 use Rattle.layout.specs.Walk.{Walk, fine, refused, Reader, after, answered, declined}
-use Rattle.layout.proofs.Steps.{goes, stops, answers, declines}
+use Rattle.layout.proofs.Steps.{goes, stops}
+use Rattle.layout.proofs.Entries.{unlocated, unread, read-entry}
 use Rattle.binary.specs.Answers.{because}
 use Rattle.binary.specs.declared.counts.Refusal.{Refusal}
 use Rattle.records.proofs.Reading as records
@@ -27,20 +28,16 @@ module _ (B : Type 0) (w : Walk (Unit {0})) (f : Unit {0} → ℕ → Walk B) (r
 pub same-entry : (x : Walk (Unit {0})) (e d : Listed) (k : ℕ) (s : ListOf ℕ) → x ≡ entryAt e k s → e ≡ d → x ≡ entryAt d k s
 same-entry x e d k s found is = found ∙ ap (λ (e : Listed). entryAt e k s) is
 
--- What a call answers of an entry, by where it stops: at the place, in the entry, or nowhere. r is what `locate` answered, q what
--- reading the entry answered, through the definition `says` of its cases.
+-- What a call answers of entry k of a list, by where it stops.
 module _ {A B : Type 0} (limits : Limits) (list : List) (k : ℕ) (bits : Model → Reader A) (summary : Model → ℕ → A → ℕ → B) (s : ListOf ℕ) (start : ℕ) (r : Located) (placed : locatedRead r ≡ locate limits list k s start) where
   pub nth-unlocated : (why : Refusal) → r ≡ Located.Refused why → declined (because why) ≡ nth limits list k bits summary s start
-  unfolding nth
-  nth-unlocated why seen = declines Model B Located locatedRead _ _ r (Located.Refused why) (because why) refl placed seen
+  nth-unlocated why seen = unlocated _ bits summary s locatedRead r _ placed seen (because why) refl
 
   module _ {Q : Type 0} (m : Model) (at : ℕ) (seen : r ≡ Located.At m at) (says : Q → Walk A) (q case : Q) (read : says q ≡ bits m s at) (came : q ≡ case) where
     pub nth-short : (why : Walk.Refusal) → says case ≡ refused why → declined why ≡ nth limits list k bits summary s start
-    unfolding nth
-    nth-short why is = answers Model B Located locatedRead _ _ r (Located.At m at) m at _ refl placed seen (declines A B Q says _ _ q case why is read came)
+    nth-short = unread _ bits summary s locatedRead r _ placed seen m at refl says q case read came
 
     pub nth-read : (a : A) (end : ℕ) (v : B) → says case ≡ fine a end → v ≡ summary m at a end → answered v ≡ nth limits list k bits summary s start
-    unfolding nth
-    nth-read a end v is made = answers Model B Located locatedRead _ _ r (Located.At m at) m at _ refl placed seen (answers A B Q says _ _ q case a end _ is read came (ap answered made))
+    nth-read = read-entry _ bits summary s locatedRead r _ placed seen m at refl says q case read came
 
 pub ruleset reading = (entry-goes, entry-stops, records.reading)

@@ -4,7 +4,7 @@ use Prim.Native.Nat.{ℕ}
 use mathlib.Core.Bool.{cond}
 use mathlib.Core.List.{List as ListOf, []}
 use lib.Dec.{ltb}
-use Rattle.layout.specs.Walk.{Walk, fine, refused, refusal, Reader, after, Answer, answer, times, items}
+use Rattle.layout.specs.Walk.{Walk, fine, refused, refusal, Reader, after, Answer, entryOf, times, items}
 use Rattle.layout.specs.Records.{initial, additional, bone, morph, model, boneState, morphState, constraintState, parentState}
 use Rattle.section.specs.Limits.{Limits}
 use Rattle.section.specs.Model.{modelSection}
@@ -41,7 +41,6 @@ unfoldable pub locate : Limits → List → ℕ → ListOf ℕ → ℕ → Walk 
 locate limits list k s start =
     after (modelSection limits s start) (λ m end. after (entryAt (entriesOf list m) k s) (λ u at. fine m at))
 
--- What a call answers of entry k: the entry is read where it stands, and its summary made of its bits, its offset and its end.
-unfoldable pub nth : {A B : Type 0} → Limits → List → ℕ → (Model → Reader A) → (Model → ℕ → A → ℕ → B) → ListOf ℕ → ℕ → Answer B
-nth limits list k bits summary s start =
-    answer (after (locate limits list k s start) (λ m at. after (bits m s at) (λ b end. fine (summary m at b end) end)))
+-- What a call answers of entry k.
+abbrev pub nth : {A B : Type 0} → Limits → List → ℕ → (Model → Reader A) → (Model → ℕ → A → ℕ → B) → ListOf ℕ → ℕ → Answer B
+nth limits list k bits summary s start = entryOf (locate limits list k s start) bits summary s

@@ -1,0 +1,3 @@
+// x
+pub mod items;
+pub mod track;

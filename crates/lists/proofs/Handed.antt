@@ -1,7 +1,7 @@
 -- Texts and payloads, as parts of the section. Assumes nothing.
 use Prim.Native.Nat.{ℕ}
 use mathlib.Core.List.{List, []}
-use mathlib.Core.Path.{_≡_, refl, sym, ap, subst, _∙_}
+use mathlib.Core.Path.{_≡_, refl, sym, ap, _∙_}
 use lib.ListN.{take, drop}
 use Rattle.layout.specs.Walk.{Refusal, Walk, Answer, answered, declined}
 use Rattle.binary.specs.Answers.{stringRead}
@@ -9,7 +9,7 @@ use Rattle.binary.specs.declared.strings.ReadString.{ReadString}
 use Rattle.records.specs.declared.base.Span.{Span}
 use Rattle.section.specs.declared.model.Model.{Model}
 use Rattle.lists.specs.Answers.{textRead}
-use Rattle.lists.specs.Parts.{partOr, payloadOr}
+use Rattle.lists.specs.Parts.{payloadOr}
 use Rattle.lists.specs.Interpolation.{curvesOr}
 use Rattle.lists.specs.Texts.{foundOf, textAt}
 use Rattle.lists.specs.declared.texts.ReadText.{ReadText}
@@ -27,21 +27,18 @@ text-found s m text k t r found told read =
 pub text-named : (s : List ℕ) (m : Model) (text k : Text) (t : ReadText) → text ≡ k → textRead s t ≡ textAt k m s → textRead s t ≡ textAt text m s
 text-named s m text k t told read = read ∙ ap (λ (x : Text). textAt x m s) (sym told)
 
--- The part that a call's answer names; x is what the definition gives, y what the call answered.
+-- What is made of a call's answer: x is what the definition gives, y what the call answered, k its case.
+pub handed : {A L : Type 0} (f : Answer A → L) (x y k : Answer A) (p : L) → y ≡ x → y ≡ k → p ≡ f k → p ≡ f x
+handed f x y k p contract seen is = is ∙ ap f (sym seen ∙ contract)
+
+-- A payload.
 module _ {A : Type 0} (spanOf : A → Span) (s : List ℕ) (x y : Answer A) (contract : y ≡ x) where
   pub payload-none : (why : Refusal) → y ≡ declined why → [] ≡ payloadOr spanOf x s
-  payload-none why seen = ap (λ (a : Answer A). payloadOr spanOf a s) (sym seen ∙ contract)
+  payload-none why seen = handed (λ (a : Answer A). payloadOr spanOf a s) x y (declined why) [] contract seen refl
 
   pub payload-some : (a : A) (part : List ℕ) → y ≡ answered a → part ≡ take (spanOf a .«payload_byte_length») (drop (spanOf a .«payload_offset») s) → part ≡ payloadOr spanOf x s
-  payload-some a part seen is = is ∙ ap (λ (a : Answer A). payloadOr spanOf a s) (sym seen ∙ contract)
+  payload-some a part = handed (λ (a : Answer A). payloadOr spanOf a s) x y (answered a) part contract
 
-module _ (x y : Answer (List ℕ)) (contract : y ≡ x) where
-  pub part-none : (why : Refusal) → y ≡ declined why → [] ≡ partOr x
-  part-none why seen = ap partOr (sym seen ∙ contract)
-
-  pub part-some : (part p : List ℕ) → y ≡ answered p → part ≡ p → part ≡ partOr x
-  part-some part p seen is = is ∙ ap partOr (sym seen ∙ contract)
-
--- The curves that an answer names.
+-- The curves of a record at an offset.
 pub curves-from : (x a : Answer ℕ) (s : List ℕ) (r : List (List ℕ)) → a ≡ x → r ≡ curvesOr a s → r ≡ curvesOr x s
-curves-from x a s r is e = e ∙ ap (λ (a : Answer ℕ). curvesOr a s) is
+curves-from x a s r is = handed (λ (a : Answer ℕ). curvesOr a s) x a a r is refl

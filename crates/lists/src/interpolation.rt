@@ -8,7 +8,12 @@ use records::curves;
 use records::curves::ReadInterpolation;
 
 // The four curves as they stand; all 0 where `bone_keyframe` with the same inputs refuses.
-pub fn bone_interpolation(section: &[u8], start: usize, include_index: bool, number: usize) -> [[u8; 4]; 4]
+pub fn bone_interpolation(
+    section: &[u8],
+    start: usize,
+    include_index: bool,
+    number: usize,
+) -> [[u8; 4]; 4]
     ensures { λ r. ⌜ r ≡ curvesOr (boneInterpolation edition1 «include_index» number (now (section .entry)) start) (now (section .entry)) ⌝ }
 {
     match keyframes::locate_bone(section, start, include_index, number) {

@@ -4,13 +4,14 @@ ghost use Prim.Native.Nat.{_<_};
 ghost use Rattle.section.specs.Limits.{edition1};
 ghost use Rattle.lists.specs.Lists.{entriesOf, entryAt, locate as locateOf};
 ghost use Rattle.lists.specs.Answers.{entriesSaid, entryRead, locatedRead};
-use binary::counts::Refusal;
 use binary::blocks;
 use binary::blocks::Items;
+use binary::counts::Refusal;
 use binary::numbers::Skipped;
 use records::items;
 use section::model;
-use section::model::{Model, ReadModel};
+use section::model::Model;
+use section::model::ReadModel;
 
 // The lists whose entries have fixed items.
 pub enum List {

@@ -6,7 +6,9 @@ ghost use Rattle.section.specs.Limits.{edition1};
 ghost use Rattle.lists.specs.Keyframes.{boneKeyframe, morphKeyframe, modelKeyframe};
 ghost use Rattle.lists.specs.Parts.{payloadOr};
 use crate::keyframes;
-use crate::keyframes::{BoneKeyframe, ModelKeyframe, MorphKeyframe};
+use crate::keyframes::BoneKeyframe;
+use crate::keyframes::ModelKeyframe;
+use crate::keyframes::MorphKeyframe;
 
 // The bytes from an offset on, no more than there are.
 pub fn part(s: &[u8], offset: usize, length: usize) -> &[u8]

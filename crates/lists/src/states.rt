@@ -3,15 +3,19 @@ ghost use mathlib.Core.Path.{_≡_};
 ghost use Rattle.section.specs.Limits.{edition1};
 ghost use Rattle.lists.specs.States.{boneState, morphState, constraintState, outsideParentState};
 ghost use Rattle.lists.specs.Answers.{boneStateRead, morphStateRead, constraintStateRead, outsideParentStateRead};
+use crate::lists;
+use crate::lists::List;
+use crate::lists::Located;
 use binary::counts::Refusal;
 use binary::groups;
 use binary::groups::ReadBits4;
 use binary::numbers;
-use binary::numbers::{ReadBool, ReadU32};
-use crate::lists;
-use crate::lists::{List, Located};
+use binary::numbers::ReadBool;
+use binary::numbers::ReadU32;
 use records::states;
-use records::states::{PmmDocumentBoneStateSummary, PmmDocumentOutsideParentStateSummary, ReadBoneState};
+use records::states::PmmDocumentBoneStateSummary;
+use records::states::PmmDocumentOutsideParentStateSummary;
+use records::states::ReadBoneState;
 
 pub enum BoneState {
     Read(PmmDocumentBoneStateSummary),
@@ -78,7 +82,9 @@ pub fn outside_parent_state(section: &[u8], start: usize, number: usize) -> Outs
         Located::Refused(why) => OutsideParentState::Refused(why),
         Located::At(_, at) => match groups::read_u32x4_le(section, at) {
             ReadBits4::Short(place) => OutsideParentState::Refused(Refusal::TooShort(place)),
-            ReadBits4::Value(b, _) => OutsideParentState::Read(states::outside_parent_state_summary(b)),
+            ReadBits4::Value(b, _) => OutsideParentState::Read(states::outside_parent_state_summary(
+                b,
+            )),
         },
     }
 }

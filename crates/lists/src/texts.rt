@@ -4,13 +4,14 @@ ghost use Rattle.section.specs.Limits.{edition1};
 ghost use Rattle.lists.specs.Texts.{nameAt, textAt, textOf, foundOf};
 ghost use Rattle.lists.specs.Parts.{partOr};
 ghost use Rattle.lists.specs.Answers.{textRead, textSpanRead};
+use crate::parts;
 use binary::counts::Refusal;
 use binary::numbers::Skipped;
 use binary::strings;
 use binary::strings::ReadString;
-use crate::parts;
 use section::model;
-use section::model::{Model, ReadModel};
+use section::model::Model;
+use section::model::ReadModel;
 use section::names::Names;
 
 // Which text: the model's name, its English name or its path, or a bone's or morph's name by its number.
@@ -33,10 +34,7 @@ pub enum ReadText {
 
 // Where a text stands.
 pub enum TextSpan {
-    At {
-        offset: usize,
-        length: usize,
-    },
+    At { offset: usize, length: usize },
     Refused(Refusal),
 }
 

@@ -4,10 +4,10 @@ ghost use Prim.Native.Nat.{_+_, _≤_};
 ghost use lib.ListN.{length};
 ghost use Rattle.records.specs.Curves.{curveAt, curvesAt, interpolationAt, noCurves};
 ghost use Rattle.records.specs.Answers.{interpolationRead};
-use binary::numbers;
-use binary::numbers::Skipped;
 use crate::base;
 use crate::base::ReadBase;
+use binary::numbers;
+use binary::numbers::Skipped;
 
 // The offset of a bone record's interpolation.
 pub enum ReadInterpolation {

@@ -11,10 +11,10 @@ use crate::base::PmmDocumentBaseKeyframeSummary;
 use crate::base::ReadBase;
 use crate::base::Span;
 use crate::items;
+use binary::blocks;
 use binary::numbers;
 use binary::numbers::ReadBool;
 use binary::numbers::Skipped;
-use binary::blocks;
 
 pub struct ModelBits {
     pub base: BaseBits,

@@ -9,11 +9,11 @@ ghost use Rattle.section.specs.Limits.{edition1};
 ghost use Rattle.section.specs.Answers.{keyframesRead, keyframeBlocksRead};
 use crate::names::Counts;
 use binary::blocks;
+use binary::blocks::Items;
 use binary::counts;
 use binary::counts::ReadCount;
 use binary::counts::Refusal;
 use binary::numbers::Skipped;
-use binary::blocks::Items;
 use records::items;
 
 pub struct Keyframes {

@@ -45,7 +45,7 @@ trackOf start t end =
       «keyframes_offset» = t .keyframes .offset;
       «keyframes_end_offset» = t .keyframes .«end_offset»;
       «state_offset» = t .«state_offset»;
-      «state_end_offset» = end
+      «state_end_offset» = end;
     }
 
 unfoldable pub trackSummary : Limits → Kind → List ℕ → ℕ → Answer PmmDocumentTrackSummary

@@ -7,8 +7,9 @@ ghost use lib.ListN.{replicate};
 ghost use Rattle.layout.specs.Records.{camera, light};
 ghost use Rattle.binary.specs.Items.{widths};
 ghost use Rattle.tracks.specs.Track.{itemsOf};
-use binary::blocks::{Items, Run};
 use crate::track::Kind;
+use binary::blocks::Items;
+use binary::blocks::Run;
 
 fn camera_items(behind: u32) -> Items
     requires { ⌜ behind < 4 ⌝ }
@@ -16,8 +17,14 @@ fn camera_items(behind: u32) -> Items
 {
     Items {
         first: 4,
-        run1: Run { times: behind + 9, width: 4 },
-        run2: Run { times: 1, width: 24 },
+        run1: Run {
+            times: behind + 9,
+            width: 4,
+        },
+        run2: Run {
+            times: 1,
+            width: 24,
+        },
         run3: Run { times: 1, width: 1 },
         run4: Run { times: 1, width: 4 },
         run5: Run { times: 1, width: 1 },
@@ -29,7 +36,10 @@ fn light_items(behind: u32) -> Items
 {
     Items {
         first: 4,
-        run1: Run { times: behind, width: 4 },
+        run1: Run {
+            times: behind,
+            width: 4,
+        },
         run2: Run { times: 6, width: 4 },
         run3: Run { times: 1, width: 1 },
         run4: Run { times: 0, width: 1 },

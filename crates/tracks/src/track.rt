@@ -11,13 +11,15 @@ ghost use Rattle.lists.specs.Lists.{entryAt};
 ghost use Rattle.tracks.specs.Track.{itemsOf, stateOf, trackParts, trackSection, trackEntries, trackOf, trackSummary, locate as locateOf};
 ghost use Rattle.tracks.specs.declared.track.Kind.{Kind};
 ghost use Rattle.tracks.specs.Answers.{trackRead, trackSummaryRead, locatedRead};
+use crate::items;
 use binary::counts::Refusal;
 use binary::numbers;
 use binary::numbers::Skipped;
-use crate::items;
-use lists::lists::{Entries, ReadEntry};
+use lists::lists::Entries;
+use lists::lists::ReadEntry;
 use section::keyframes;
-use section::keyframes::{Keyframes, ReadKeyframes};
+use section::keyframes::Keyframes;
+use section::keyframes::ReadKeyframes;
 
 pub enum Kind {
     Camera,
@@ -175,7 +177,13 @@ fn entry(s: &[u8], t: Track, kind: Kind, include_index: bool, number: usize) -> 
     }
 }
 
-pub(crate) fn locate(s: &[u8], start: usize, kind: Kind, include_index: bool, number: usize) -> Located
+pub(crate) fn locate(
+    s: &[u8],
+    start: usize,
+    kind: Kind,
+    include_index: bool,
+    number: usize,
+) -> Located
     ensures { λ r. ⌜ locatedRead r ≡ locateOf edition1 kind «include_index» number (now (s .entry)) start ⌝ }
 {
     match read_track(s, start, kind) {

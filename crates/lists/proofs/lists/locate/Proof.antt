@@ -36,7 +36,7 @@ returns c = model-stops _ _ _ _ _ (c .before .before .before .read-model .ensure
 
 returns-2 : tie.Need-returns-2
 unfolding locate
-returns-2 c = 
+returns-2 c =
     let found = c .before .before .before in
     let read = found .before .before .before .before .before in
     model-goes _ _ _ _ _ _ _ (read .read-model .ensures) (found .before .before .before .m .given .1)
@@ -44,7 +44,7 @@ returns-2 c =
 
 returns-3 : tie.Need-returns-3
 unfolding locate
-returns-3 c = 
+returns-3 c =
     let found = c .before .before .before in
     let read = found .before .before .before .before .before in
     model-goes _ _ _ _ _ _ _ (read .read-model .ensures) (found .before .before .before .m .given .1)

@@ -13,10 +13,11 @@ signed-requires-2 c κs = search needs
 
 returns : tie.Need-returns
 unfolding pairOf
-returns c = 
-    rw
-    (signed-is _ _ (c .before .signed .ok) (c .before .signed .ensures),
-    signed-is _ _ (c .signed2 .ok) (c .signed2 .ensures))
+returns c =
+    rw (
+      signed-is _ _ (c .before .signed .ok) (c .before .signed .ensures),
+      signed-is _ _ (c .signed2 .ok) (c .signed2 .ensures),
+    )
 
 pub pair-summary-spec : {M : Type 1} → statement M
 pair-summary-spec = tie.close (tie.spec signed-requires signed-requires-2 returns)

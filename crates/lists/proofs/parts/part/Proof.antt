@@ -13,7 +13,7 @@ slice-aggregate-result : tie.Need-slice-aggregate-result
 slice-aggregate-result c = search needs
 
 returns : tie.Need-returns
-returns c = 
+returns c =
     let a = c .before .before .args in
     sym (ap (take (a .length)) (drop-of-length-le (a .s .now) {i = a .offset} (omega arith)) ∙ take-nil (a .length))
 
@@ -30,7 +30,7 @@ part-result-end : tie.Need-part-result-end
 part-result-end c = search needs
 
 returns-2 : tie.Need-returns-2
-returns-2 c = 
+returns-2 c =
     let a = c .before .before .before .args in
     take-all (length (a .s .now) - a .offset) (drop (a .offset) (a .s .now)) (simp length-drop (omega arith))
     ∙ sym (take-all (a .length) (drop (a .offset) (a .s .now)) (simp length-drop (omega arith)))
@@ -48,7 +48,7 @@ part-result-end-2 : tie.Need-part-result-end-2
 part-result-end-2 c = search needs
 
 returns-3 : tie.Need-returns-3
-returns-3 c = 
+returns-3 c =
     let a = c .before .before .before .args in
     ap (λ (k : ℕ). take k (drop (a .offset) (a .s .now))) (add-sub-cancel-left (a .offset) (a .length))
 

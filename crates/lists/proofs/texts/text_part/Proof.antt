@@ -1,7 +1,8 @@
 -- `text_part` meets its contract. Assumes nothing.
-use mathlib.Core.Path.{ap}
+use mathlib.Core.Path.{refl, ap}
+use Rattle.lists.specs.Parts.{partOr}
 use Rattle.lists.specs.Answers.{textSpanRead}
-use Rattle.lists.proofs.Handed.{part-none, part-some}
+use Rattle.lists.proofs.Handed.{handed}
 use borrow.Author.Needs.{needs}
 use Rattle.lists.proofs.texts.text_part.Statement.{statement}
 use Rattle.lists.proofs.texts.text_part.Tie as tie
@@ -22,10 +23,10 @@ part-requires : tie.Need-part-requires
 part-requires c κs = search needs
 
 returns : tie.Need-returns
-returns c = part-none _ _ (c .before .before .before .text-span .ensures) _ (ap (textSpanRead _) (c .before .enum-told .given .1))
+returns c = handed partOr _ _ _ _ (c .before .before .before .text-span .ensures) (ap (textSpanRead _) (c .before .enum-told .given .1)) refl
 
 returns-2 : tie.Need-returns-2
-returns-2 c = part-some _ _ (c .before .before .before .before .text-span .ensures) _ _ (ap (textSpanRead _) (c .before .before .offset .given .1)) (c .part .ensures)
+returns-2 c = handed partOr _ _ _ _ (c .before .before .before .before .text-span .ensures) (ap (textSpanRead _) (c .before .before .offset .given .1)) (c .part .ensures)
 
 pub text-part-spec : {M : Type 1} → statement M
 text-part-spec =

@@ -32,7 +32,7 @@ returns c = model-declines _ _ _ _ _ (c .before .before .before .read-model .ens
 
 returns-2 : tie.Need-returns-2
 unfolding textOf
-returns-2 c = 
+returns-2 c =
     let found = c .before .before .before in
     let read = found .before .before .before .before in
     model-answers _ _ _ _ _ _ _ (read .read-model .ensures) (found .before .before .m .given .1)
@@ -40,7 +40,7 @@ returns-2 c =
 
 returns-3 : tie.Need-returns-3
 unfolding textOf
-returns-3 c = 
+returns-3 c =
     let found = c .before .before .before in
     let read = found .before .before .before .before in
     model-answers _ _ _ _ _ _ _ (read .read-model .ensures) (found .before .before .m .given .1)

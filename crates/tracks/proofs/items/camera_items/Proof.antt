@@ -11,7 +11,7 @@ add-t2 : tie.Need-add-t2
 add-t2 c = search needs
 
 returns : tie.Need-returns
-returns c = 
+returns c =
     let n = c .args .behind in
     ap (λ (xs : List ℕ). 4 ∷ (xs ++ (24 ∷ 1 ∷ 4 ∷ 1 ∷ []))) (sym (replicate-append-replicate n 9 4))
     ∙ ap (λ (xs : List ℕ). 4 ∷ xs) (append-assoc (replicate n 4) (replicate 9 4) (24 ∷ 1 ∷ 4 ∷ 1 ∷ []))

@@ -32,7 +32,7 @@ returns c = stops _ _ _ trackRead _ _ _ _ _ refl (c .before .before .before .rea
 
 returns-2 : tie.Need-returns-2
 unfolding locate
-returns-2 c = 
+returns-2 c =
     let found = c .before .before .before in
     let read = found .before .before .before .before in
     goes _ _ _ trackRead _ _ _ _ _ _ _ refl (read .read-track .ensures) (found .before .before .t .given .1)
@@ -40,7 +40,7 @@ returns-2 c =
 
 returns-3 : tie.Need-returns-3
 unfolding locate
-returns-3 c = 
+returns-3 c =
     let found = c .before .before .before in
     let read = found .before .before .before .before in
     goes _ _ _ trackRead _ _ _ _ _ _ _ refl (read .read-track .ensures) (found .before .before .t .given .1)

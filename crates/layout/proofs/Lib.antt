@@ -3,3 +3,4 @@ pub mod Entries
 pub mod Inversion
 pub mod Sizes
 pub mod Blocks
+pub mod Walks

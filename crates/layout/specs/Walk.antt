@@ -2,7 +2,7 @@
 -- refusal 1. Definitions only.
 use Prim.Native.Nat.{ℕ, zero, suc, _+_, _*_, _^_, _-_}
 use mathlib.Core.List.{List, [], _∷_}
-use mathlib.Core.Bool.{Bool, true, false, not, cond}
+use mathlib.Core.Bool.{Bool, not, cond}
 use lib.ListN.{length, getD, take, drop}
 use lib.Dec.{leb, ltb, eqb}
 use lib.IntN.{ℤ, pos}

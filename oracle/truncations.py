@@ -52,16 +52,17 @@ def record(label, number, index, frame, payload):
     shown.append(f"{initial}{label} record {number} {section[start:].hex()}")
 
 
+# No two records have the same payload: `len(shown)` is another number for each.
 def bone():
-    item(bytes(range(16)))
-    f32(1.5, -2.0, 0.25)
+    item(bytes(range(len(shown), len(shown) + 16)))
+    f32(len(shown) + 0.5, -2.0, 0.25)
     f32(0.0, 0.0, 0.0, 1.0)
     u8(0)
     u8(1)
 
 
 def morph():
-    f32(0.5)
+    f32(len(shown) + 0.25)
     u8(1)
 
 
@@ -70,7 +71,7 @@ def model():
     for k in range(CONSTRAINTS):
         u8(k % 2)
     for k in range(PARENTS):
-        i32(k, -1)
+        i32(len(shown) + k, -1)
     u8(1)
 
 

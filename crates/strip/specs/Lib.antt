@@ -1,0 +1,5 @@
+pub mod Plain
+pub mod Keys
+pub mod Strip
+pub mod Work
+pub mod Call

@@ -1,0 +1,9 @@
+pub mod First
+pub mod Counting
+pub mod Indexed
+pub mod Chained
+pub mod Follow
+pub mod Ends
+pub mod Sound
+pub mod Reached
+pub mod Matched

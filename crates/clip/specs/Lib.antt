@@ -5,3 +5,4 @@ pub mod Chain
 pub mod Keys
 pub mod Build
 pub mod Section
+pub mod Matched

@@ -1,0 +1,105 @@
+-- Demand 3 for the records of one kind: the second's build is accepted exactly when its unpaired records are idle, and then each track has
+-- the same keys. Assumes nothing.
+use Prim.Native.Nat.{ℕ, suc, _+_, _≤_, _<_, _^_}
+use native.Mathlib.Decide.{ℕ-discrete}
+use native.Mathlib.Omega.{arith}
+use mathlib.Core.Bool.{Bool, true, false}
+use mathlib.Core.List.{List, [], _∷_, map}
+use mathlib.Core.Option.{none}
+use mathlib.Core.Path.{_≡_, refl, sym, ap, _∙_, subst}
+use borrow.Author.Tests.{leb-false, lt-leb, eqb-true, eqb-false, eq-eqb}
+use lib.Dec.{eqb}
+use lib.ListN.{length, getD}
+use Rattle.layout.specs.Walk.{Answer, answered}
+use Rattle.clip.specs.First.{any, member}
+use Rattle.clip.specs.Fields.{Initial, Additional, Records, Kind}
+use Rattle.clip.specs.Keys.{Key, KeyTest}
+use Rattle.clip.specs.Build.{initialKey, recordKey, chainOf, keys, buildRefusal}
+use Rattle.clip.specs.Matched.{Matched, Idle, UnpairedIdle}
+use Rattle.clip.proofs.First.{contrary, or-true, true-or, any-true, any-false, Passes}
+use Rattle.clip.proofs.Counting.{AllBelow}
+use Rattle.clip.proofs.Indexed.{Indexed}
+use Rattle.clip.proofs.Chained.{Chained, all-below}
+use Rattle.clip.proofs.Follow.{chain-is, answer-is}
+use Rattle.clip.proofs.Sound.{KeysPass, keysOf, Sound, sound, builds, chain-of}
+
+pub member-map : (f : ℕ → ℕ) (p : ℕ) (ps : List ℕ) → member p ps ≡ true → member (f p) (map f ps) ≡ true
+unfolding member
+member-map f p [] e = contrary false e refl
+member-map f p (q ∷ ps) e =
+    or-true (eqb p q) (member p ps) e
+    (λ here. rw (eq-eqb (f p) (f q) (ap f (eqb-true p q here))))
+    (λ later. true-or (eqb (f p) (f q)) (member (f p) (map f ps)) (member-map f p ps later))
+
+-- What a mapped list holds comes from the list.
+record From (f : ℕ → ℕ) (n q : ℕ) : Type 0 where
+  pub source : ℕ
+  pub below : source < n
+  pub is : f source ≡ q
+
+map-member : (f : ℕ → ℕ) (n q : ℕ) (ps : List ℕ) → AllBelow n ps → member q (map f ps) ≡ true → From f n q
+unfolding member
+map-member f n q [] b e = contrary false e refl
+map-member f n q (p ∷ ps) b e =
+    or-true (eqb q (f p)) (member q (map f ps)) e
+    (λ here. record { source = p; below = b .0; is = sym (eqb-true q (f p) here) })
+    (λ later. map-member f n q ps (b .1) later)
+
+module _ {B : Type 0} (r₁ r₂ : Records B) (m : Matched r₁ r₂) where
+  -- A chain of the first is a chain of the second.
+  carried : (ps : List ℕ) (expected link : ℕ) → Chained r₁ expected link ps → Chained r₂ expected link (map (m .pair) ps)
+  carried [] expected link c = c
+  carried (p ∷ ps) expected link c =
+      let same = m .same p (c .1) in
+      (c .0, m .within p (c .1), sym (ap (λ a. a .index) same) ∙ c .2, sym (ap (λ a. a .previous) same) ∙ c .3,
+       subst (λ next. Chained r₂ link next (map (m .pair) ps)) (ap (λ a. a .next) same) (carried ps link (r₁ .at p .next) (c .4)))
+
+  same-records : (ps : List ℕ) → AllBelow (r₁ .additional) ps → map (λ p. recordKey (r₂ .at p)) (map (m .pair) ps) ≡ map (λ p. recordKey (r₁ .at p)) ps
+  same-records [] b = refl
+  same-records (p ∷ ps) b = rw (m .same p (b .0), same-records ps (b .1))
+
+  same-keys : (t : ℕ) (ps : List ℕ) → t < r₁ .tracks → AllBelow (r₁ .additional) ps → keysOf r₂ t (map (m .pair) ps) ≡ keysOf r₁ t ps
+  same-keys t ps lt b = rw (m .initial t lt, same-records ps b)
+
+  -- A record of the second is paired or not.
+  split : {P : Type 0} (q : ℕ) → (From (m .pair) (r₁ .additional) q → P) → (((p : ℕ) → p < r₁ .additional → m .pair p ≡ q → ⊥) → P) → P
+  split {P} q paired unpaired = go (any (r₁ .additional) (λ p. eqb (m .pair p) q)) refl
+    where
+      go : (b : Bool) → any (r₁ .additional) (λ p. eqb (m .pair p) q) ≡ b → P
+      go true e = let at = any-true (λ p. eqb (m .pair p) q) (r₁ .additional) e in paired (record { source = at .place; below = at .below; is = eqb-true _ _ (at .is) })
+      go false e = unpaired (λ p lt is. eqb-false (m .pair p) q (any-false (λ p. eqb (m .pair p) q) (r₁ .additional) e p lt) is)
+
+  module _ (test : KeyTest B) (s₁ : Sound test r₁) where
+    -- The chains of the first, as they stand in the second.
+    of₂ : ℕ → List ℕ
+    of₂ t = map (m .pair) (s₁ .of t)
+
+    chained₂ : (t : ℕ) → t < r₂ .tracks → Chained r₂ t (r₂ .initial t .next) (of₂ t)
+    unfolding of₂
+    chained₂ t lt₂ =
+        let lt : t < r₁ .tracks = rw (m .tracks) lt₂ in
+        subst (λ next. Chained r₂ t next (map (m .pair) (s₁ .of t))) (ap (λ i. i .next) (m .initial t lt)) (carried (s₁ .of t) t (r₁ .initial t .next) (s₁ .chained t lt))
+
+    unpaired-idle : Sound test r₂ → UnpairedIdle m
+    unfolding of₂
+    unpaired-idle s₂ q lt unpaired =
+        let links = s₂ .idle q lt (λ t is. out t is (member q (s₂ .of t)) refl) in
+        let low = s₂ .indexed .positive q lt in
+        record {
+          previous = links .0;
+          next = links .1;
+          positive = lt-leb (2 ^ 31) (r₂ .at q .index) (omega (arith, low));
+          above = s₂ .indexed .above q lt;
+          alone = λ p lp other same. other (s₂ .indexed .apart p q lp lt same);
+        }
+      where
+        out : (t : ℕ) → t < r₂ .tracks → (b : Bool) → member q (s₂ .of t) ≡ b → b ≡ false
+        out t is false e = refl
+        out t is true e =
+            let lt₁ : t < r₁ .tracks = rw (m .tracks) is in
+            let one = chain-is Kind.bone r₂ t (s₂ .indexed) is (s₂ .of t) (s₂ .chained t is) in
+            let other = chain-is Kind.bone r₂ t (s₂ .indexed) is (of₂ t) (chained₂ t is) in
+            let same : s₂ .of t ≡ map (m .pair) (s₁ .of t) = answer-is (sym one ∙ other) in
+            let inside : member q (map (m .pair) (s₁ .of t)) ≡ true = rw same at e in
+            let from = map-member (m .pair) (r₁ .additional) q (s₁ .of t) (all-below r₁ (s₁ .of t) t (r₁ .initial t .next) (s₁ .chained t lt₁)) inside in
+            absurd (unpaired (from .source) (from .below) (from .is))

@@ -6,6 +6,7 @@ use native.Mathlib.Omega.{arith}
 use mathlib.Core.Bool.{Bool, true, false}
 use mathlib.Core.List.{List, [], _∷_, map}
 use mathlib.Core.Option.{none}
+use mathlib.Core.Logic.{_↔_}
 use mathlib.Core.Path.{_≡_, refl, sym, ap, _∙_, subst}
 use borrow.Author.Tests.{leb-false, lt-leb, eqb-true, eqb-false, eq-eqb}
 use lib.Dec.{eqb}
@@ -69,7 +70,7 @@ module _ {B : Type 0} (r₁ r₂ : Records B) (m : Matched r₁ r₂) where
       go true e = let at = any-true (λ p. eqb (m .pair p) q) (r₁ .additional) e in paired (record { source = at .place; below = at .below; is = eqb-true _ _ (at .is) })
       go false e = unpaired (λ p lt is. eqb-false (m .pair p) q (any-false (λ p. eqb (m .pair p) q) (r₁ .additional) e p lt) is)
 
-  module _ (test : KeyTest B) (s₁ : Sound test r₁) where
+  module _ (kind : Kind) (test : KeyTest B) (s₁ : Sound test r₁) where
     -- The chains of the first, as they stand in the second.
     of₂ : ℕ → List ℕ
     of₂ t = map (m .pair) (s₁ .of t)
@@ -97,9 +98,72 @@ module _ {B : Type 0} (r₁ r₂ : Records B) (m : Matched r₁ r₂) where
         out t is false e = refl
         out t is true e =
             let lt₁ : t < r₁ .tracks = rw (m .tracks) is in
-            let one = chain-is Kind.bone r₂ t (s₂ .indexed) is (s₂ .of t) (s₂ .chained t is) in
-            let other = chain-is Kind.bone r₂ t (s₂ .indexed) is (of₂ t) (chained₂ t is) in
+            let one = chain-is kind r₂ t (s₂ .indexed) is (s₂ .of t) (s₂ .chained t is) in
+            let other = chain-is kind r₂ t (s₂ .indexed) is (of₂ t) (chained₂ t is) in
             let same : s₂ .of t ≡ map (m .pair) (s₁ .of t) = answer-is (sym one ∙ other) in
             let inside : member q (map (m .pair) (s₁ .of t)) ≡ true = rw same at e in
             let from = map-member (m .pair) (r₁ .additional) q (s₁ .of t) (all-below r₁ (s₁ .of t) t (r₁ .initial t .next) (s₁ .chained t lt₁)) inside in
             absurd (unpaired (from .source) (from .below) (from .is))
+
+    -- The second's indices are those of the first, and those of idle records.
+    indexed₂ : UnpairedIdle m → Indexed r₂
+    indexed₂ idle =
+        record {
+          positive = λ q lt. split q
+            (λ from. let low = s₁ .indexed .positive (from .source) (from .below) in let e = index-of q from in omega (arith, low, e))
+            (λ unpaired. let low = leb-false (2 ^ 31) (r₂ .at q .index) (idle q lt unpaired .positive) in omega (arith, low));
+          above = λ q lt. split q
+            (λ from. let high = s₁ .indexed .above (from .source) (from .below) in let e = index-of q from in let n = m .tracks in omega (arith, high, e, n))
+            (λ unpaired. idle q lt unpaired .above);
+          apart = λ q k lq lk e. split q
+            (λ from. split k
+              (λ from′. sym (from .is) ∙ ap (m .pair) (s₁ .indexed .apart (from .source) (from′ .source) (from .below) (from′ .below) (sym (index-of q from) ∙ e ∙ index-of k from′)) ∙ from′ .is)
+              (λ unpaired. same q k (ℕ-discrete q k) (λ other. idle k lk unpaired .alone q lq other e)))
+            (λ unpaired. same q k (ℕ-discrete q k) (λ other. idle q lq unpaired .alone k lk (λ back. other (sym back)) (sym e)));
+        }
+      where
+        index-of : (q : ℕ) (from : From (m .pair) (r₁ .additional) q) → r₂ .at q .index ≡ r₁ .at (from .source) .index
+        index-of q from = subst (λ k. r₂ .at k .index ≡ r₁ .at (from .source) .index) (from .is) (sym (ap (λ a. a .index) (m .same (from .source) (from .below))))
+
+        same : (q k : ℕ) → Dec (q ≡ k) → ((q ≡ k → ⊥) → ⊥) → q ≡ k
+        same q k (yes e) h = e
+        same q k (no ne) h = absurd (h ne)
+
+    idle-sound : UnpairedIdle m → Sound test r₂
+    unfolding of₂
+    idle-sound idle =
+        record {
+          indexed = indexed₂ idle;
+          of = of₂;
+          chained = chained₂;
+          pass = λ t lt₂.
+            let lt : t < r₁ .tracks = rw (m .tracks) lt₂ in
+            subst (λ ks. KeysPass (test t) [] ks) (sym (same-keys t (s₁ .of t) lt (all-below r₁ (s₁ .of t) t (r₁ .initial t .next) (s₁ .chained t lt)))) (s₁ .pass t lt);
+          idle = λ q lt out. split q
+            (λ from.
+              let same = m .same (from .source) (from .below) in
+              let links = s₁ .idle (from .source) (from .below) (λ t is. go q from t (out t (rw (m .tracks) at is)) (member (from .source) (s₁ .of t)) refl) in
+              (subst (λ k. r₂ .at k .previous ≡ 0) (from .is) (sym (ap (λ a. a .previous) same) ∙ links .0), subst (λ k. r₂ .at k .next ≡ 0) (from .is) (sym (ap (λ a. a .next) same) ∙ links .1)))
+            (λ unpaired. let free = idle q lt unpaired in (free .previous, free .next));
+        }
+      where
+        go : (q : ℕ) (from : From (m .pair) (r₁ .additional) q) (t : ℕ) → member q (map (m .pair) (s₁ .of t)) ≡ false → (b : Bool) → member (from .source) (s₁ .of t) ≡ b → b ≡ false
+        go q from t out false e = refl
+        go q from t out true e =
+            let inside = member-map (m .pair) (from .source) (s₁ .of t) e in
+            contrary (member q (map (m .pair) (s₁ .of t))) (subst (λ k. member k (map (m .pair) (s₁ .of t)) ≡ true) (from .is) inside) out
+
+    pub accepted-exactly : (buildRefusal kind test r₂ ≡ none) ↔ UnpairedIdle m
+    accepted-exactly = (λ e. unpaired-idle (sound kind test r₂ e), λ idle. builds kind test r₂ (idle-sound idle))
+
+    -- Each track has the same keys.
+    pub same-tracks : Sound test r₂ → (t : ℕ) → t < r₁ .tracks → keys kind r₁ t ≡ keys kind r₂ t
+    unfolding keys of₂
+    same-tracks s₂ t lt =
+        let lt₂ : t < r₂ .tracks = rw (m .tracks) at lt in
+        let one = chain-of kind test r₁ s₁ t lt in
+        let two = chain-of kind test r₂ s₂ t lt₂ in
+        let here = chain-is kind r₂ t (s₂ .indexed) lt₂ (s₂ .of t) (s₂ .chained t lt₂) in
+        let there = chain-is kind r₂ t (s₂ .indexed) lt₂ (of₂ t) (chained₂ t lt₂) in
+        let same : s₂ .of t ≡ map (m .pair) (s₁ .of t) = answer-is (sym here ∙ there) in
+        rw (one, two ∙ same) (sym (same-keys t (s₁ .of t) lt (all-below r₁ (s₁ .of t) t (r₁ .initial t .next) (s₁ .chained t lt))))

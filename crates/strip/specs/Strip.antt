@@ -10,18 +10,19 @@ use Rattle.clip.specs.Section.{bones, morphs}
 use Rattle.strip.specs.Plain.{Group, boneGroups, boneFields, morphGroups, morphFields}
 use Rattle.strip.specs.Keys.{littleEndian, keyBytes}
 
--- "a count is u16"
+-- The bytes of a count: "Bone count u16, morph count u16", "key count u16".
 abbrev pub countWidth : ℕ
 countWidth = 2
 
-module _ {B : Type 0} (width : ℕ) (groups : List Group) (fieldsOf : B → List (List ℕ)) where
+module _ {B : Type 0} (groups : List Group) (fieldsOf : B → List (List ℕ)) where
   unfoldable pub keysBytes : List (Key B) → List ℕ
   keysBytes [] = []
   keysBytes (key ∷ rest) = keyBytes groups fieldsOf key ++ keysBytes rest
 
+module _ {B : Type 0} (width : ℕ) (groups : List Group) (fieldsOf : B → List (List ℕ)) where
   -- "key count u16 and the keys in chain order"
   unfoldable pub trackBytes : List (Key B) → List ℕ
-  trackBytes ks = littleEndian width (length ks) ++ keysBytes ks
+  trackBytes ks = littleEndian width (length ks) ++ keysBytes groups fieldsOf ks
 
   -- The tracks from one on, so many of them.
   unfoldable pub tracksBytes : (ℕ → List (Key B)) → ℕ → ℕ → List ℕ

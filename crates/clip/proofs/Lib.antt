@@ -7,3 +7,4 @@ pub mod Ends
 pub mod Sound
 pub mod Reached
 pub mod Matched
+pub mod Facts

@@ -1,0 +1,220 @@
+-- What holds of the records of a section that was read: their counts are within the limits, and the blocks stand one behind the other in the
+-- lent bytes. Assumes nothing.
+use Prim.Native.Nat.{ℕ, zero, suc, _+_, _*_, _≤_, _<_}
+use native.Mathlib.Nat.{suc-mul, zero-mul}
+use native.Mathlib.Omega.{arith}
+use mathlib.Core.Bool.{Bool, true, false, cond}
+use mathlib.Core.List.{List, [], _∷_}
+use mathlib.Core.Path.{_≡_, refl, sym, ap, _∙_, subst}
+use lib.Dec.{leb, ltb}
+use lib.ListN.{length}
+use Rattle.layout.specs.Walk.{Walk, fine, refused, refusal, refusedAt, item, block, items, times, count, string, bool, u32, u8, unlimited}
+use Rattle.layout.specs.Records.{size, initial, additional, bone, morph, model, boneState, morphState, constraintState, parentState}
+use Rattle.layout.proofs.Inversion.{Came, came, Counted, counted, same-value, item-fits}
+use Rattle.section.specs.Limits.{Limits}
+use Rattle.section.specs.Model.{opening, names, entries, counts, view, scroll, front, keyframes, keyframeBlocks, states, ending, modelParts, modelSection}
+use Rattle.section.specs.declared.names.Names.{Names}
+use Rattle.section.specs.declared.names.Counts.{Counts}
+use Rattle.section.specs.declared.keyframes.Keyframes.{Keyframes}
+use Rattle.section.specs.declared.keyframes.KeyframeBlocks.{KeyframeBlocks}
+use Rattle.section.specs.declared.closing.States.{States}
+use Rattle.section.specs.declared.closing.Ending.{Ending}
+use Rattle.section.specs.declared.model.Front.{Front}
+use Rattle.section.specs.declared.model.Model.{Model}
+
+same-next : {A : Type 0} {a b : A} {n m : ℕ} → fine a n ≡ fine b m → n ≡ m
+same-next e = cc
+
+item-ends : {A : Type 0} (width : ℕ) (value : List ℕ → ℕ → A) (s : List ℕ) (at : ℕ) (a : A) (next : ℕ) → item width value s at ≡ fine a next → next ≡ at + width
+unfolding item
+item-ends {A} width value s at a next e = go (leb (at + width) (length s)) e
+  where
+    go : (b : Bool) → cond b (fine (value s at) (at + width)) (refusedAt 1 at) ≡ fine a next → next ≡ at + width
+    go true e = sym (same-next e)
+    go false e = absurd (let z : _≡_ {A = ℕ} 0 1 = cc in omega arith)
+
+items-end : (widths s : List ℕ) (at next : ℕ) → items widths s at ≡ fine tt next → next ≡ at + size widths
+unfolding items size
+items-end [] s at next e = let n = same-next e in omega (arith, n)
+items-end (width ∷ widths) s at next e =
+    let c = came (block width s at) _ tt next e in
+    let first = item-ends width _ s at _ (c .at) (c .first) in
+    let rest = items-end widths s (c .at) next (c .rest) in
+    omega (arith, first, rest)
+
+times-end : (n : ℕ) (widths s : List ℕ) (at next : ℕ) → times n (items widths) s at ≡ fine tt next → next ≡ at + n * size widths
+unfolding times
+times-end zero widths s at next e = let n = same-next e in rw zero-mul (omega (arith, n))
+times-end (suc n) widths s at next e =
+    let c = came (items widths s at) _ tt next e in
+    let first = items-end widths s at (c .at) (subst (λ (u : Unit {0}). items widths s at ≡ fine u (c .at)) refl (c .first)) in
+    let rest = times-end n widths s (c .at) next (c .rest) in
+    omega (arith, first, rest, suc-mul n (size widths))
+
+count-ends : (limit : ℕ) (s : List ℕ) (at n next : ℕ) → count limit s at ≡ fine n next → next ≡ at + 4
+unfolding count
+count-ends limit s at n next e =
+    let back = came (u32 s at) _ n next e in
+    let first = item-ends 4 _ s at _ (back .at) (back .first) in
+    go (leb 2147483648 (back .value)) (ltb limit (back .value)) (back .value) (back .at) first (back .rest)
+  where
+    go : (high above : Bool) (m after : ℕ) → after ≡ at + 4 → cond high (refusedAt 2 at) (cond above (refusedAt 20 at) (fine m after)) ≡ fine n next → next ≡ at + 4
+    go true above m after first e = absurd (let z : _≡_ {A = ℕ} 0 1 = cc in omega arith)
+    go false true m after first e = absurd (let z : _≡_ {A = ℕ} 0 1 = cc in omega arith)
+    go false false m after first e = sym (same-next e) ∙ first
+
+-- The two blocks of a kind of record.
+pub record Block (tracks initialSize additionalSize most at next : ℕ) (k : Keyframes) : Type 0 where
+  pub begins : k .«initial_offset» ≡ at
+  pub offset : k .offset ≡ at + tracks * initialSize + 4
+  pub ends : next ≡ k .offset + k .count * additionalSize
+  pub within : k .count ≤ most
+
+block-is : (tracks : ℕ) (initialItems additionalItems : List ℕ) (limit : ℕ) (s : List ℕ) (at : ℕ) (k : Keyframes) (next : ℕ) → keyframes tracks initialItems additionalItems limit s at ≡ fine k next → Block tracks (size initialItems) (size additionalItems) limit at next k
+unfolding keyframes
+block-is tracks initialItems additionalItems limit s at k next e =
+    let a = came (times tracks (items initialItems) s at) _ k next e in
+    let c = came (count limit s (a .at)) _ k next (a .rest) in
+    let f = came (times (c .value) (items additionalItems) s (c .at)) _ k next (c .rest) in
+    let made : Keyframes = record { «initial_offset» = at; «count_offset» = a .at; offset = c .at; «end_offset» = f .at; count = c .value } in
+    let is : made ≡ k = same-value (f .rest) in
+    let ends = same-next (f .rest) in
+    let e1 = times-end tracks initialItems s at (a .at) (a .first) in
+    let e2 = count-ends limit s (a .at) (c .value) (c .at) (c .first) in
+    let e3 = times-end (c .value) additionalItems s (c .at) (f .at) (f .first) in
+    subst (λ (k : Keyframes). Block tracks (size initialItems) (size additionalItems) limit at next k) is
+    (record {
+       begins = refl;
+       offset = omega (arith, e1, e2);
+       ends = sym ends ∙ e3;
+       within = counted limit s (a .at) (c .value) (c .at) (c .first) .within;
+     })
+
+-- The blocks of bones and morphs.
+pub record Blocks (limits : Limits) (s : List ℕ) (m : Model) : Type 0 where
+  pub at : ℕ
+  pub between : ℕ
+  pub end : ℕ
+  pub boneCount : m .front .counts .bones .count ≤ limits .tracks
+  pub morphCount : m .front .counts .morphs .count ≤ limits .tracks
+  pub bones : Block (m .front .counts .bones .count) (size (initial bone)) (size (additional bone)) (limits .additional) at between (m .keyframes .bones)
+  pub morphs : Block (m .front .counts .morphs .count) (size (initial morph)) (size (additional morph)) (limits .additional) between end (m .keyframes .morphs)
+  pub within : end ≤ length s
+
+names-within : (limit : ℕ) (s : List ℕ) (at : ℕ) (n : Names) (next : ℕ) → names limit s at ≡ fine n next → n .count ≤ limit
+unfolding names
+names-within limit s at n next e =
+    let c = came (count limit s at) _ n next e in
+    let t = came (times (c .value) string s (c .at)) _ n next (c .rest) in
+    let made : Names = record { count = c .value; offset = c .at } in
+    let is : made ≡ n = same-value (t .rest) in
+    subst (λ (n : Names). n .count ≤ limit) is (counted limit s at (c .value) (c .at) (c .first) .within)
+
+counts-within : (limits : Limits) (s : List ℕ) (at : ℕ) (c : Counts) (next : ℕ) → counts limits s at ≡ fine c next → (c .bones .count ≤ limits .tracks) × (c .morphs .count ≤ limits .tracks)
+unfolding counts
+counts-within limits s at c next e =
+    let bones = came (names (limits .tracks) s at) _ c next e in
+    let morphs = came (names (limits .tracks) s (bones .at)) _ c next (bones .rest) in
+    let constraints = came (entries s (morphs .at)) _ c next (morphs .rest) in
+    let parents = came (entries s (constraints .at)) _ c next (constraints .rest) in
+    let made : Counts = record { bones = bones .value; morphs = morphs .value; constraints = constraints .value; parents = parents .value } in
+    let is : made ≡ c = same-value (parents .rest) in
+    subst (λ (c : Counts). (c .bones .count ≤ limits .tracks) × (c .morphs .count ≤ limits .tracks)) is
+    (names-within (limits .tracks) s at (bones .value) (bones .at) (bones .first), names-within (limits .tracks) s (bones .at) (morphs .value) (morphs .at) (morphs .first))
+
+front-within : (limits : Limits) (s : List ℕ) (at : ℕ) (f : Front) (next : ℕ) → front limits s at ≡ fine f next → (f .counts .bones .count ≤ limits .tracks) × (f .counts .morphs .count ≤ limits .tracks)
+unfolding front
+front-within limits s at f next e =
+    let o = came (opening s at) _ f next e in
+    let c = came (counts limits s (o .at)) _ f next (o .rest) in
+    let v = came (view s (c .at)) _ f next (c .rest) in
+    let r = came (scroll s (v .at)) _ f next (v .rest) in
+    let made : Front = record { opening = o .value; counts = c .value; view = v .value; scroll = r .value } in
+    let is : made ≡ f = same-value (r .rest) in
+    subst (λ (f : Front). (f .counts .bones .count ≤ limits .tracks) × (f .counts .morphs .count ≤ limits .tracks)) is (counts-within limits s (o .at) (c .value) (c .at) (c .first))
+
+-- The records of a model follow those of the morphs.
+record TwoBlocks (limits : Limits) (c : Counts) (at next : ℕ) (k : KeyframeBlocks) : Type 0 where
+  pub between : ℕ
+  pub end : ℕ
+  pub bones : Block (c .bones .count) (size (initial bone)) (size (additional bone)) (limits .additional) at between (k .bones)
+  pub morphs : Block (c .morphs .count) (size (initial morph)) (size (additional morph)) (limits .additional) between end (k .morphs)
+  pub more : end ≤ next
+
+two-blocks : (limits : Limits) (c : Counts) (s : List ℕ) (at : ℕ) (k : KeyframeBlocks) (next : ℕ) → keyframeBlocks limits c s at ≡ fine k next → TwoBlocks limits c at next k
+unfolding keyframeBlocks
+two-blocks limits c s at k next e =
+    let bones = came (keyframes (c .bones .count) (initial bone) (additional bone) (limits .additional) s at) _ k next e in
+    let morphs = came (keyframes (c .morphs .count) (initial morph) (additional morph) (limits .additional) s (bones .at)) _ k next (bones .rest) in
+    let items = model (c .constraints) (c .parents) in
+    let models = came (keyframes 1 (initial items) (additional items) unlimited s (morphs .at)) _ k next (morphs .rest) in
+    let made : KeyframeBlocks = record { bones = bones .value; morphs = morphs .value; models = models .value } in
+    let is : made ≡ k = same-value (models .rest) in
+    let ends = same-next (models .rest) in
+    let last = block-is 1 (initial items) (additional items) unlimited s (morphs .at) (models .value) (models .at) (models .first) in
+    let e1 = last .offset in
+    let e2 = last .ends in
+    subst (λ (k : KeyframeBlocks). TwoBlocks limits c at next k) is
+    (record {
+       between = bones .at;
+       end = morphs .at;
+       bones = block-is (c .bones .count) (initial bone) (additional bone) (limits .additional) s at (bones .value) (bones .at) (bones .first);
+       morphs = block-is (c .morphs .count) (initial morph) (additional morph) (limits .additional) s (bones .at) (morphs .value) (morphs .at) (morphs .first);
+       more = omega (arith, e1, e2, ends);
+     })
+
+-- The states stand behind the records, and the first item behind them is whole.
+states-behind : (c : Counts) (s : List ℕ) (at : ℕ) (v : States) (next : ℕ) → states c s at ≡ fine v next → at ≤ next
+unfolding states
+states-behind c s at v next e =
+    let a = came (times (c .bones .count) (items boneState) s at) _ v next e in
+    let b = came (times (c .morphs .count) (items morphState) s (a .at)) _ v next (a .rest) in
+    let d = came (times (c .constraints) (items constraintState) s (b .at)) _ v next (b .rest) in
+    let f = came (times (c .parents) (items parentState) s (d .at)) _ v next (d .rest) in
+    let ends = same-next (f .rest) in
+    let e1 = times-end (c .bones .count) boneState s at (a .at) (a .first) in
+    let e2 = times-end (c .morphs .count) morphState s (a .at) (b .at) (b .first) in
+    let e3 = times-end (c .constraints) constraintState s (b .at) (d .at) (d .first) in
+    let e4 = times-end (c .parents) parentState s (d .at) (f .at) (f .first) in
+    omega (arith, e1, e2, e3, e4, ends)
+
+ending-within : (s : List ℕ) (at : ℕ) (v : Ending) (next : ℕ) → ending s at ≡ fine v next → at ≤ length s
+unfolding ending
+ending-within s at v next e =
+    let a = came (bool s at) _ v next e in
+    let b = came (u8 s at) _ (a .value) (a .at) (a .first) in
+    let fits = item-fits 1 _ s at (b .value) (b .at) (b .first) in
+    omega (arith, fits)
+
+pub blocks : (limits : Limits) (s : List ℕ) (start : ℕ) (m : Model) (end : ℕ) → modelSection limits s start ≡ fine m end → Blocks limits s m
+unfolding modelSection modelParts
+blocks limits s start m end e = go (ltb (limits .length) (length s)) e
+  where
+    parts : modelParts limits s start ≡ fine m end → Blocks limits s m
+    parts e =
+        let f = came (front limits s start) _ m end e in
+        let k = came (keyframeBlocks limits (f .value .counts) s (f .at)) _ m end (f .rest) in
+        let t = came (states (f .value .counts) s (k .at)) _ m end (k .rest) in
+        let d = came (ending s (t .at)) _ m end (t .rest) in
+        let made : Model = record { front = f .value; keyframes = k .value; states = t .value; ending = d .value } in
+        let is : made ≡ m = same-value (d .rest) in
+        let counts = front-within limits s start (f .value) (f .at) (f .first) in
+        let two = two-blocks limits (f .value .counts) s (f .at) (k .value) (k .at) (k .first) in
+        let behind = states-behind (f .value .counts) s (k .at) (t .value) (t .at) (t .first) in
+        let last = ending-within s (t .at) (d .value) (d .at) (d .first) in
+        let more = two .more in
+        subst (λ (m : Model). Blocks limits s m) is
+        (record {
+           at = f .at;
+           between = two .between;
+           end = two .end;
+           boneCount = counts .0;
+           morphCount = counts .1;
+           bones = two .bones;
+           morphs = two .morphs;
+           within = omega (arith, behind, last, more);
+         })
+
+    go : (b : Bool) → cond b (refused (refusal 16 [])) (modelParts limits s start) ≡ fine m end → Blocks limits s m
+    go true e = absurd (let z : _≡_ {A = ℕ} 0 1 = cc in omega arith)
+    go false e = parts e

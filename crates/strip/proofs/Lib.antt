@@ -1,3 +1,6 @@
 pub mod Bytes
 pub mod Keys
 pub mod Tracks
+pub mod Call
+pub mod Written
+pub mod Demand3

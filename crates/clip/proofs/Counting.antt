@@ -109,3 +109,19 @@ number-any n (suc k) of d b apart =
     go : (p : ℕ) → Passes (λ t. member p (of t)) k → (b : Bool) → member p (of k) ≡ b → b ≡ false
     go p at false e = refl
     go p at true e = absurd (let same = apart (at .place) k p (omega (arith, at .below)) (omega arith) (at .is) e in omega (arith, same, at .below))
+
+-- A sum from its front.
+pub total-cong : (n : ℕ) (f g : ℕ → ℕ) → ((i : ℕ) → i < n → f i ≡ g i) → total n f ≡ total n g
+unfolding total
+total-cong zero f g h = refl
+total-cong (suc n) f g h = rw (total-cong n f g (λ i lt. h i (omega arith)), h n (omega arith))
+
+pub total-front : (n : ℕ) (f : ℕ → ℕ) → total (suc n) f ≡ f 0 + total n (λ i. f (suc i))
+unfolding total
+total-front zero f = omega arith
+total-front (suc n) f = let front = total-front n f in omega (arith, front)
+
+pub total-suc : (n : ℕ) (f : ℕ → ℕ) → total n (λ i. suc (f i)) ≡ n + total n f
+unfolding total
+total-suc zero f = refl
+total-suc (suc n) f = let before = total-suc n f in omega (arith, before)

@@ -4,3 +4,4 @@ pub mod Tracks
 pub mod Call
 pub mod Written
 pub mod Demand3
+pub mod Length

@@ -10,7 +10,7 @@ use Rattle.section.specs.Summary.{sectionsOf, indicesOf, summaryOf, modelSummar
 use Rattle.clip.specs.First.{first, any, number, member, total}
 use Rattle.clip.specs.Scan.{indexRefusal, scan, recordOf}
 use Rattle.clip.specs.Chain.{follow, chain}
-use Rattle.clip.specs.Keys.{keyTest, squaredLength, poseAsked, weightAsked}
+use Rattle.clip.specs.Keys.{keyTest, squaredLength, translationFails, orientationFails, poseAsked, weightAsked}
 use Rattle.clip.specs.Build.{chainOf, keys, reachedBefore, disconnected, linksFollowed, loose, recordsRefusal, trackRefusal, buildRefusal}
 use Rattle.clip.specs.Section.{bytesAt, boneBody, morphBody, initialAt, additionalAt, recordsAt, bones, morphs, clipRefusal, reachedRecords, looseRecords}
 use Rattle.strip.specs.Plain.{plainFloat, plainFloats, plainBytes}
@@ -21,5 +21,5 @@ use Rattle.strip.specs.Call.{stripCall}
 use Rattle.cases.specs.Table.{Case, table, given}
 
 pub cases : map (λ (c : Case). given (c .asked) (c .section)) table ≡ map (λ (c : Case). c .gives) table
-unfolding item string times count items opening names entries counts u32x3 u32x4 view scroll front keyframes keyframeBlocks states ending modelParts modelSection sectionsOf indicesOf summaryOf modelSummary first any number member total indexRefusal scan recordOf follow chain keyTest squaredLength poseAsked weightAsked chainOf keys reachedBefore disconnected linksFollowed loose recordsRefusal trackRefusal buildRefusal bytesAt boneBody morphBody initialAt additionalAt recordsAt bones morphs clipRefusal reachedRecords looseRecords plainFloat plainFloats plainBytes littleEndian mapByte present keyBytes keysBytes trackBytes tracksBytes stripOf each inserted byIndex trackMark firstWork secondWork stripCall Table.size span climb size odd units round sum add mul lt eq le ofFields ofBits
+unfolding item string times count items opening names entries counts u32x3 u32x4 view scroll front keyframes keyframeBlocks states ending modelParts modelSection sectionsOf indicesOf summaryOf modelSummary first any number member total indexRefusal scan recordOf follow chain keyTest squaredLength translationFails orientationFails poseAsked weightAsked chainOf keys reachedBefore disconnected linksFollowed loose recordsRefusal trackRefusal buildRefusal bytesAt boneBody morphBody initialAt additionalAt recordsAt bones morphs clipRefusal reachedRecords looseRecords plainFloat plainFloats plainBytes littleEndian mapByte present keyBytes keysBytes trackBytes tracksBytes stripOf each inserted byIndex trackMark firstWork secondWork stripCall Table.size span climb size odd units round sum add mul lt eq le ofFields ofBits
 cases = refl

@@ -8,3 +8,5 @@ pub mod Sound
 pub mod Reached
 pub mod Matched
 pub mod Facts
+pub mod Shared
+pub mod Clip

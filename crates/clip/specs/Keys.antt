@@ -48,13 +48,16 @@ abbrev pub limit : Float
 limit = fin false 1 (negsuc 22)
 
 -- "12 translation not finite, 13 orientation not finite or too short"
+unfoldable pub translationFails : Pose → Bool
+translationFails p = not (finite (p .«translation_x») && finite (p .«translation_y») && finite (p .«translation_z»))
+
+unfoldable pub orientationFails : Pose → Bool
+orientationFails p =
+    not (finite (p .«orientation_x») && finite (p .«orientation_y») && finite (p .«orientation_z») && finite (p .«orientation_w»))
+    || le (squaredLength (p .«orientation_x») (p .«orientation_y») (p .«orientation_z») (p .«orientation_w»)) limit
+
 unfoldable pub poseAsked : Pose → Option ℕ
-poseAsked p =
-    given (not (finite (p .«translation_x») && finite (p .«translation_y») && finite (p .«translation_z»))) 12
-    or given
-       (not (finite (p .«orientation_x») && finite (p .«orientation_y») && finite (p .«orientation_z») && finite (p .«orientation_w»))
-        || le (squaredLength (p .«orientation_x») (p .«orientation_y») (p .«orientation_z») (p .«orientation_w»)) limit)
-       13
+poseAsked p = given (translationFails p) 12 or given (orientationFails p) 13
 
 -- The float of the 4 bytes from a place on.
 abbrev pub floatAt : List ℕ → ℕ → Float

@@ -15,7 +15,7 @@ use Rattle.clip.specs.Build.{keys, buildRefusal}
 use Rattle.clip.specs.Section.{recordsAt, bones, morphs, clipRefusal}
 use Rattle.clip.specs.Matched.{Matched, UnpairedIdle}
 use Rattle.clip.proofs.First.{or-none, none-or}
-use Rattle.clip.proofs.Sound.{Sound, sound}
+use Rattle.clip.proofs.Clip.{SoundClip, sound-clip}
 use Rattle.clip.proofs.Matched.{accepted-exactly, same-tracks}
 use Rattle.clip.proofs.Facts.{Blocks, blocks}
 use Rattle.strip.specs.Plain.{boneGroups, boneFields, morphGroups, morphFields}
@@ -28,17 +28,6 @@ use Rattle.strip.proofs.Tracks.{WritableTrack, tracks-are, equal-tracks
 use Rattle.strip.proofs.Tracks as Tracks
 use Rattle.strip.proofs.Call.{accepted-within, tells, strip-out, accepts}
 use Rattle.strip.proofs.Written.{Wide, track-writable, bones-shaped, morphs-shaped}
-
--- A clip that meets no refusal is sound in both kinds.
-pub record SoundClip (s : List ℕ) (m : Model) : Type 0 where
-  pub bones : Sound boneTest (bones s m)
-  pub morphs : Sound morphTest (morphs s m)
-
-pub sound-clip : (s : List ℕ) (m : Model) → clipRefusal s m ≡ none → SoundClip s m
-unfolding clipRefusal
-sound-clip s m e =
-    let parts = or-none (buildRefusal bone boneTest (bones s m)) (buildRefusal morph morphTest (morphs s m)) e in
-    record { bones = sound bone boneTest (bones s m) (parts .0); morphs = sound morph morphTest (morphs s m) (parts .1) }
 
 module _ (s₁ : List ℕ) (m₁ : Model) (s₂ : List ℕ) (m₂ : Model) (ofBones : Matched (bones s₁ m₁) (bones s₂ m₂)) (ofMorphs : Matched (morphs s₁ m₁) (morphs s₂ m₂)) (c₁ : SoundClip s₁ m₁) where
   exactly : (clipRefusal s₂ m₂ ≡ none) ↔ (UnpairedIdle ofBones × UnpairedIdle ofMorphs)

@@ -20,6 +20,7 @@ use Rattle.clip.specs.Section.{recordsAt, bones, morphs, clipRefusal}
 use Rattle.clip.proofs.Counting.{total-cong, total-front, total-suc}
 use Rattle.clip.proofs.Sound.{Sound}
 use Rattle.clip.proofs.Reached.{reached-and-loose}
+use Rattle.clip.proofs.Clip.{SoundClip, sound-clip}
 use Rattle.clip.proofs.Facts.{Block, Blocks, blocks}
 use Rattle.strip.specs.Plain.{Group, boneGroups, boneFields, morphGroups, morphFields}
 use Rattle.strip.specs.Keys.{littleEndian, mapByte, present, keyBytes}
@@ -27,7 +28,6 @@ use Rattle.strip.specs.Strip.{keysBytes, trackBytes, tracksBytes, stripO
 use Rattle.strip.proofs.Bytes.{length-littleEndian}
 use Rattle.strip.proofs.Keys.{Shaped, Writable, AllWritable}
 use Rattle.strip.proofs.Tracks.{WritableTrack}
-use Rattle.strip.proofs.Demand3.{SoundClip, sound-clip}
 use Rattle.strip.proofs.Written.{ShapedRecords, bones-shaped, morphs-shaped}
 
 -- The widths of all groups together.

@@ -35,7 +35,7 @@ unfolding member
 fresh-nil [] = tt
 fresh-nil (p ∷ ps) = (refl, fresh-nil ps)
 
-fresh-cons : (p : ℕ) (visited ps : List ℕ) → member p ps ≡ false → Fresh visited ps → Fresh (p ∷ visited) ps
+pub fresh-cons : (p : ℕ) (visited ps : List ℕ) → member p ps ≡ false → Fresh visited ps → Fresh (p ∷ visited) ps
 unfolding member
 fresh-cons p visited [] out f = tt
 fresh-cons p visited (q ∷ ps) out f = go (eqb p q) refl out (λ out. fresh-cons p visited ps out (f .1))

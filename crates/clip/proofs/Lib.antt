@@ -3,6 +3,7 @@ pub mod Counting
 pub mod Indexed
 pub mod Chained
 pub mod Follow
+pub mod Walked
 pub mod Ends
 pub mod Sound
 pub mod Reached

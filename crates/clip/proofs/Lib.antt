@@ -11,4 +11,5 @@ pub mod Matched
 pub mod Facts
 pub mod Shared
 pub mod Clip
+pub mod Frames
 pub mod Bodies

@@ -1,23 +1,12 @@
 // The bools and pairs of a model record.
-use crate::put;
-use crate::refusals;
-use crate::scalars;
+ghost use Rattle.section.specs.Limits.{edition1};
+ghost use Rattle.numbers.specs.Answers.{Says};
+ghost use Rattle.lists.specs.ModelLists.{modelKeyframeConstraintState, modelKeyframeOutsideParent};
+ghost use Rattle.numbers.specs.States.{flag, pair};
 use lists::model_lists::ModelFlag;
 use lists::model_lists::ModelPair;
-use lists::model_lists::PmmDocumentOutsideParentIndexSummary;
-
-pub(crate) fn put_flag(values: &mut [u64], b: bool) {
-    let numbers = [scalars::flag(b)];
-    put::put_numbers(values, 0, &numbers);
-}
-
-fn put_pair(values: &mut [u64], p: PmmDocumentOutsideParentIndexSummary) {
-    let numbers = [
-        scalars::signed(p.parent_model_index),
-        scalars::signed(p.parent_model_bone_index),
-    ];
-    put::put_numbers(values, 0, &numbers);
-}
+use numbers::refusals;
+use numbers::states;
 
 #[no_mangle]
 pub extern "C" fn limdroven_model_keyframe_constraint_state(
@@ -27,7 +16,9 @@ pub extern "C" fn limdroven_model_keyframe_constraint_state(
     number: usize,
     entry: usize,
     values: &mut [u64],
-) -> u32 {
+) -> u32
+    ensures { λ r. ⌜ Says flag (modelKeyframeConstraintState edition1 «include_index» number entry (now (section .entry)) start) (now (values .entry)) r (now (values .exit)) ⌝ }
+{
     match lists::model_lists::model_keyframe_constraint_state(
         section,
         start,
@@ -36,8 +27,8 @@ pub extern "C" fn limdroven_model_keyframe_constraint_state(
         entry,
     ) {
         ModelFlag::Refused(why) => refusals::refused(values, why),
-        ModelFlag::Read(b) => {
-            put_flag(values, b);
+        ModelFlag::Read(x) => {
+            states::put_flag(values, 0, x);
             0
         }
     }
@@ -51,7 +42,9 @@ pub extern "C" fn limdroven_model_keyframe_outside_parent(
     number: usize,
     entry: usize,
     values: &mut [u64],
-) -> u32 {
+) -> u32
+    ensures { λ r. ⌜ Says pair (modelKeyframeOutsideParent edition1 «include_index» number entry (now (section .entry)) start) (now (values .entry)) r (now (values .exit)) ⌝ }
+{
     match lists::model_lists::model_keyframe_outside_parent(
         section,
         start,
@@ -60,8 +53,8 @@ pub extern "C" fn limdroven_model_keyframe_outside_parent(
         entry,
     ) {
         ModelPair::Refused(why) => refusals::refused(values, why),
-        ModelPair::Read(p) => {
-            put_pair(values, p);
+        ModelPair::Read(x) => {
+            states::put_pair(values, 0, x);
             0
         }
     }

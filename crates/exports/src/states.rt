@@ -1,41 +1,13 @@
 // The states of bones, morphs, constraints and outside parents.
-use crate::groups;
-use crate::model_lists;
-use crate::put;
-use crate::refusals;
-use crate::scalars;
+ghost use Rattle.section.specs.Limits.{edition1};
+ghost use Rattle.numbers.specs.Answers.{Says};
+ghost use Rattle.lists.specs.States.{boneState, morphState, constraintState, outsideParentState};
+ghost use Rattle.numbers.specs.States.{float, flag, boneState as boneStateNumbers, outsideParent};
 use lists::states::BoneState;
 use lists::states::ConstraintState;
 use lists::states::MorphState;
 use lists::states::OutsideParentState;
-use records::states::PmmDocumentBoneStateSummary;
-use records::states::PmmDocumentOutsideParentStateSummary;
-
-fn put_bone_state(values: &mut [u64], b: PmmDocumentBoneStateSummary) {
-    let pose = groups::pose(b.pose);
-    let flags = [
-        scalars::flag(b.dirty),
-        scalars::flag(b.physics_disabled),
-        scalars::flag(b.selected),
-    ];
-    put::put_numbers(values, 0, &pose);
-    put::put_numbers(values, 7, &flags);
-}
-
-fn put_weight(values: &mut [u64], x: f32) {
-    let numbers = [scalars::float(x)];
-    put::put_numbers(values, 0, &numbers);
-}
-
-fn put_outside_parent(values: &mut [u64], p: PmmDocumentOutsideParentStateSummary) {
-    let numbers = [
-        scalars::signed(p.parent_model_index),
-        scalars::signed(p.parent_model_bone_index),
-        scalars::signed(p.subject_bone_index),
-        scalars::signed(p.target_model_index),
-    ];
-    put::put_numbers(values, 0, &numbers);
-}
+use numbers::refusals;
 
 #[no_mangle]
 pub extern "C" fn limdroven_bone_state(
@@ -43,11 +15,13 @@ pub extern "C" fn limdroven_bone_state(
     start: usize,
     number: usize,
     values: &mut [u64],
-) -> u32 {
+) -> u32
+    ensures { λ r. ⌜ Says boneStateNumbers (boneState edition1 number (now (section .entry)) start) (now (values .entry)) r (now (values .exit)) ⌝ }
+{
     match lists::states::bone_state(section, start, number) {
         BoneState::Refused(why) => refusals::refused(values, why),
-        BoneState::Read(b) => {
-            put_bone_state(values, b);
+        BoneState::Read(x) => {
+            numbers::states::put_bone_state(values, x);
             0
         }
     }
@@ -59,11 +33,13 @@ pub extern "C" fn limdroven_morph_state(
     start: usize,
     number: usize,
     values: &mut [u64],
-) -> u32 {
+) -> u32
+    ensures { λ r. ⌜ Says float (morphState edition1 number (now (section .entry)) start) (now (values .entry)) r (now (values .exit)) ⌝ }
+{
     match lists::states::morph_state(section, start, number) {
         MorphState::Refused(why) => refusals::refused(values, why),
         MorphState::Read(x) => {
-            put_weight(values, x);
+            numbers::states::put_float(values, 0, x);
             0
         }
     }
@@ -75,11 +51,13 @@ pub extern "C" fn limdroven_constraint_state(
     start: usize,
     number: usize,
     values: &mut [u64],
-) -> u32 {
+) -> u32
+    ensures { λ r. ⌜ Says flag (constraintState edition1 number (now (section .entry)) start) (now (values .entry)) r (now (values .exit)) ⌝ }
+{
     match lists::states::constraint_state(section, start, number) {
         ConstraintState::Refused(why) => refusals::refused(values, why),
-        ConstraintState::Read(b) => {
-            model_lists::put_flag(values, b);
+        ConstraintState::Read(x) => {
+            numbers::states::put_flag(values, 0, x);
             0
         }
     }
@@ -91,11 +69,13 @@ pub extern "C" fn limdroven_outside_parent_state(
     start: usize,
     number: usize,
     values: &mut [u64],
-) -> u32 {
+) -> u32
+    ensures { λ r. ⌜ Says outsideParent (outsideParentState edition1 number (now (section .entry)) start) (now (values .entry)) r (now (values .exit)) ⌝ }
+{
     match lists::states::outside_parent_state(section, start, number) {
         OutsideParentState::Refused(why) => refusals::refused(values, why),
-        OutsideParentState::Read(p) => {
-            put_outside_parent(values, p);
+        OutsideParentState::Read(x) => {
+            numbers::states::put_outside_parent(values, 0, x);
             0
         }
     }

@@ -1,46 +1,34 @@
 // The summaries of camera and light sections.
-use crate::put;
-use crate::refusals;
-use tracks::track::PmmDocumentTrackSummary;
+ghost use Rattle.section.specs.Limits.{edition1};
+ghost use Rattle.numbers.specs.Answers.{Says};
+ghost use Rattle.tracks.specs.Track.{trackSummary};
+ghost use Rattle.tracks.specs.declared.track.Kind.{Kind};
+ghost use Rattle.numbers.specs.Tracks.{trackSummary as trackNumbers};
+use numbers::refusals;
 use tracks::track::TrackSummary;
 
-fn track_numbers(t: PmmDocumentTrackSummary) -> [u64; 9] {
-    [
-        t.offset as u64,
-        t.offset_end as u64,
-        t.initial_keyframes as u64,
-        t.keyframes as u64,
-        t.keyframe_count_offset as u64,
-        t.keyframes_offset as u64,
-        t.keyframes_end_offset as u64,
-        t.state_offset as u64,
-        t.state_end_offset as u64,
-    ]
-}
-
-fn put_track(values: &mut [u64], r: TrackSummary) -> u32 {
-    match r {
+#[no_mangle]
+pub extern "C" fn limdroven_camera_summary(section: &[u8], start: usize, values: &mut [u64]) -> u32
+    ensures { λ r. ⌜ Says trackNumbers (trackSummary edition1 Kind.Camera (now (section .entry)) start) (now (values .entry)) r (now (values .exit)) ⌝ }
+{
+    match tracks::track::read_document_camera_summary(section, start) {
         TrackSummary::Refused(why) => refusals::refused(values, why),
-        TrackSummary::Read(t) => {
-            let numbers = track_numbers(t);
-            put::put_numbers(values, 0, &numbers);
+        TrackSummary::Read(x) => {
+            numbers::track::put_track(values, 0, x);
             0
         }
     }
 }
 
 #[no_mangle]
-pub extern "C" fn limdroven_camera_summary(
-    section: &[u8],
-    start: usize,
-    values: &mut [u64],
-) -> u32 {
-    let r = tracks::track::read_document_camera_summary(section, start);
-    put_track(values, r)
-}
-
-#[no_mangle]
-pub extern "C" fn limdroven_light_summary(section: &[u8], start: usize, values: &mut [u64]) -> u32 {
-    let r = tracks::track::read_document_light_summary(section, start);
-    put_track(values, r)
+pub extern "C" fn limdroven_light_summary(section: &[u8], start: usize, values: &mut [u64]) -> u32
+    ensures { λ r. ⌜ Says trackNumbers (trackSummary edition1 Kind.Light (now (section .entry)) start) (now (values .entry)) r (now (values .exit)) ⌝ }
+{
+    match tracks::track::read_document_light_summary(section, start) {
+        TrackSummary::Refused(why) => refusals::refused(values, why),
+        TrackSummary::Read(x) => {
+            numbers::track::put_track(values, 0, x);
+            0
+        }
+    }
 }

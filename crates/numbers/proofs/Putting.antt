@@ -1,17 +1,18 @@
 -- Laws of writing from a place on: one turn, the end, nothing past the slice's end, and one list behind the other. Assumes nothing.
-use Prim.Native.Nat.{ℕ, zero, suc, _+_, _<_, _≤_}
-use mathlib.Core.List.{List, [], _∷_, _++_}
+use Prim.Native.Nat.{ℕ, zero, suc, _+_, _-_, _<_, _≤_}
+use mathlib.Core.List.{List, [], _∷_, _++_, append-nil, append-assoc}
 use mathlib.Core.Path.{_≡_, refl, sym, ap, _∙_}
 use native.Mathlib.Nat.{add-zero, add-suc, suc-add}
 use native.Mathlib.Numerals.{add-one}
 use native.Mathlib.Omega.{arith}
-use lib.ListN.{length, getD, drop, set, length-set, drop-of-length-le}
+use native.Mathlib.Decide.{decLt}
+use lib.ListN.{length, getD, take, drop, set, length-set, drop-of-length-le, take-append-drop}
 use lib.IntN.{ℤ}
 use lib.Signed.{mag}
 use mir.Syntax.{w32}
 use mir.Val.{ofZ, toZ}
 use mir.ValLaws.{toZ-ofZ}
-use lib.Seq.{drop-cons, set-out}
+use lib.Seq.{drop-cons, set-out, take-all, take-nil, take-suc-set, drop-set-lt}
 use Rattle.numbers.specs.Put.{put}
 
 pub put-none : (at : ℕ) (slice : List ℕ) → put at [] slice ≡ slice
@@ -62,3 +63,27 @@ also x y xs ys here there = ap (λ (z : ℕ). z ∷ xs) here ∙ ap (λ (zs : Li
 -- A signed field that is handed to `signed`.
 pub signed-is : (r : ℕ) (z : ℤ) → mag z < 2147483648 → r ≡ ofZ w32 (toZ w32 (ofZ w32 z)) → r ≡ ofZ w32 z
 signed-is r z fits e = e ∙ ap (ofZ w32) (toZ-ofZ w32 z (record { sfits = fits }))
+
+-- One number more, where the slice reaches its place and where it does not.
+within-room : (at : ℕ) (x : ℕ) (xs slice : List ℕ) → at < length slice → take (suc at) (set slice at x) ++ take (length (set slice at x) - suc at) xs ++ drop (suc at + length xs) (set slice at x) ≡ take at slice ++ take (length slice - at) (x ∷ xs) ++ drop (at + suc (length xs)) slice
+within-room at x xs slice within =
+    let places : length slice - at ≡ suc (length slice - suc at) = omega (arith, within) in
+    let behind-them : suc at + length xs ≡ at + suc (length xs) = omega arith in
+    rw (length-set slice at x, take-suc-set slice at x within, drop-set-lt (suc at + length xs) slice at x (omega arith), places, behind-them)
+    (ap (λ (zs : List ℕ). zs ++ drop (at + suc (length xs)) slice) (append-assoc (take at slice) (x ∷ []) (take (length slice - suc at) xs)))
+
+without-room : (at : ℕ) (xs slice : List ℕ) (behind-them : ℕ) → length slice ≤ at → at ≤ behind-them → slice ≡ take at slice ++ take (length slice - at) xs ++ drop behind-them slice
+without-room at xs slice behind-them past further =
+    let places : length slice - at ≡ 0 = omega (arith, past) in
+    rw (take-all at slice past, places, drop-of-length-le slice {i = behind-them} (omega (arith, past, further)))
+    (sym (append-nil (slice ++ []) ∙ append-nil slice))
+
+-- `put` at a glance: what stands before the place, the numbers as far as the slice reaches, what stands behind them.
+pub put-is : (at : ℕ) (xs slice : List ℕ) → put at xs slice ≡ take at slice ++ take (length slice - at) xs ++ drop (at + length xs) slice
+unfolding put
+put-is at [] slice = rw (take-nil {A = ℕ} (length slice - at), append-nil (take at slice), add-zero at) (sym (take-append-drop at slice))
+put-is at (x ∷ xs) slice =
+    elim (decLt at (length slice)) [
+      | yes within ↦ put-is (suc at) xs (set slice at x) ∙ within-room at x xs slice within
+      | no past ↦ put-past at (x ∷ xs) slice (omega (arith, past)) ∙ without-room at (x ∷ xs) slice (at + suc (length xs)) (omega (arith, past)) (omega arith)
+    ]

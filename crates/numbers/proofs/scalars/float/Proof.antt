@@ -1,11 +1,9 @@
 -- `float` meets its contract: only a NaN differs from itself. Assumes nothing.
 use borrow.Author.Needs.{needs}
 use mathlib.Core.Path.{_≡_, sym, ap, subst, _∙_}
-use mathlib.Core.Bool.{Bool, not, true, false}
-use native.Mathlib.Omega.{arith}
+use mathlib.Core.Bool.{not, false}
 use lib.Dec.{T}
 use lib.Ieee.{Float, nan, inf, fin, isNan, ne, toBits, binary32}
-use lib.Ieee.Bits.{toBits-lt}
 use lib.Ieee.Compare.{differs-from-itself, nan-differs}
 use Rattle.numbers.proofs.scalars.float.Statement.{statement}
 use Rattle.numbers.proofs.scalars.float.Tie as tie

@@ -1,16 +1,14 @@
 -- `signed` meets its contract: the pattern of -1 - n is 2 ^ 32 - 1 - n. Assumes nothing.
-use Prim.Native.Nat.{ℕ, zero, suc, _-_, _<_, _≤_, _^_}
-use mathlib.Core.Bool.{Bool, true, false}
+use Prim.Native.Nat.{ℕ, suc, _-_, _≤_, zero-le}
+use mathlib.Core.Bool.{true, false}
 use mathlib.Core.Path.{_≡_, refl, sym, ap, subst, _∙_}
 use native.Mathlib.Omega.{arith}
-use native.Mathlib.Nat.{le-of-eq}
-use Prim.Native.Nat.{zero-le}
-use lib.Dec.{T, leb, le→leb}
-use lib.IntN.{ℤ, pos, negsuc, _-ℤ_, natAbs, subℕ}
+use lib.Dec.{T, le→leb}
+use lib.IntN.{ℤ, pos, negsuc, _-ℤ_, natAbs}
 use borrow.Author.Tests.{le-ltb}
 use lib.Signed.{mag, leZ, nonNeg}
 use mir.Syntax.{w32, w64}
-use mir.Val.{Fits, SFits, toZ, ofZ, bits}
+use mir.Val.{Fits, SFits, toZ, ofZ}
 use mir.ValLaws.{toZ-ofZ}
 use Rattle.numbers.proofs.scalars.signed.Statement.{statement}
 use Rattle.numbers.proofs.scalars.signed.Tie as tie

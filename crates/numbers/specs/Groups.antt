@@ -13,7 +13,8 @@ base b =
 
 unfoldable pub pose : Pose → List ℕ
 pose p =
-    float (p .«translation_x») ∷ float (p .«translation_y») ∷ float (p .«translation_z») ∷ float (p .«orientation_x») ∷ float (p .«orientation_y») ∷ float (p .«orientation_z») ∷ float (p .«orientation_w») ∷ []
+    float (p .«translation_x») ∷ float (p .«translation_y») ∷ float (p .«translation_z»)
+    ∷ float (p .«orientation_x») ∷ float (p .«orientation_y») ∷ float (p .«orientation_z») ∷ float (p .«orientation_w») ∷ []
 
 unfoldable pub vector : Vector → List ℕ
 vector v = float (v .x) ∷ float (v .y) ∷ float (v .z) ∷ []

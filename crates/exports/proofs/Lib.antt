@@ -1,0 +1,2 @@
+pub mod Curved
+pub mod Spanned

@@ -1,0 +1,2 @@
+pub mod Curves
+pub mod Spans

@@ -1,0 +1,30 @@
+-- `put_flag` meets its contract: each number is made by a call. Assumes nothing.
+use mathlib.Core.Path.{_≡_, refl}
+use Rattle.numbers.specs.States.{flag}
+use Rattle.numbers.proofs.Putting.{same, also}
+use borrow.Author.Needs.{needs}
+use Rattle.numbers.proofs.states.put_flag.Statement.{statement}
+use Rattle.numbers.proofs.states.put_flag.Tie as tie
+
+flag-requires : tie.Need-flag-requires
+flag-requires c κs = search needs
+
+slice-aggregate-put-numbers : tie.Need-slice-aggregate-put-numbers
+slice-aggregate-put-numbers c = search needs
+
+put-numbers-requires : tie.Need-put-numbers-requires
+put-numbers-requires c κs = search needs
+
+same-length : tie.Need-same-length
+same-length c = search needs
+
+returns : tie.Need-returns
+unfolding flag
+returns c =
+    same _ _ _ _ _ (c .before .before .put-numbers .ensures)
+    (also _ _ _ _ (c .before .before .before .before .before .flag .ensures) refl)
+
+pub put-flag-spec : {M : Type 1} → statement M
+put-flag-spec =
+    tie.close
+    (tie.spec flag-requires slice-aggregate-put-numbers put-numbers-requires same-length returns)

@@ -1,0 +1,34 @@
+-- What a call returns and writes of an answer: 0 and the answer's numbers, or the refusal's number and its values.
+-- Definitions only.
+use Prim.Native.Nat.{ℕ}
+use mathlib.Core.List.{List, [], _∷_, map}
+use mathlib.Core.Path.{_≡_}
+use lib.ListN.{length}
+use mir.Syntax.{w64}
+use mir.Val.{ofZ}
+use Rattle.layout.specs.Walk.{Refusal, Answer, answered, declined}
+use Rattle.numbers.specs.Put.{put}
+
+-- A refusal's values are offsets; as for every ℤ, the 64-bit pattern is written.
+abbrev pub values : Refusal → List ℕ
+values why = map (ofZ w64) (why .values)
+
+abbrev pub status : {A : Type 0} → Answer A → ℕ
+status (answered x) = 0
+status (declined why) = why .number
+
+abbrev pub written : {A : Type 0} → (A → List ℕ) → Answer A → List ℕ
+written numbers (answered x) = numbers x
+written numbers (declined why) = values why
+
+-- What is said of a refusal: the number returned, and the slice afterwards.
+abbrev pub Refuses : Refusal → List ℕ → ℕ → List ℕ → Type 0
+Refuses why before returned now = (returned ≡ why .number) × (now ≡ put 0 (values why) before)
+
+-- What a call says of an answer: the number it returns, and its slice afterwards.
+abbrev pub Says : {A : Type 0} → (A → List ℕ) → Answer A → List ℕ → ℕ → List ℕ → Type 0
+Says numbers answer before returned now = (returned ≡ status answer) × (now ≡ put 0 (written numbers answer) before)
+
+-- What a call hands back of a part of the section: its length, and its bytes in the slice afterwards.
+abbrev pub Hands : List ℕ → List ℕ → ℕ → List ℕ → Type 0
+Hands part before returned now = (returned ≡ length part) × (now ≡ put 0 part before)

@@ -38,9 +38,7 @@ pub fn write(folder: &Path) -> io::Result<String> {
     let file: Vec<u8> = vectors.iter().flat_map(Vector::bytes).collect();
     fs::write(data.join("vectors"), &file)?;
     fs::write(data.join("broken"), broken.bytes())?;
-    let mut said = said(&vectors, 0);
-    said.push_str("one number changed:\n");
-    said.push_str(&self::said(&[broken], 1));
+    let said = said("vectors", &vectors, 0) + &said("broken", &[broken], 1);
     fs::write(folder.join("stdout"), said)?;
     Ok(told(&vectors, file.len()))
 }
@@ -140,13 +138,13 @@ fn broken(vectors: &[Vector]) -> Vector {
 }
 
 /// What the program is to write.
-fn said(vectors: &[Vector], wrong: usize) -> String {
+fn said(file: &str, vectors: &[Vector], wrong: usize) -> String {
     let checks = || vectors.iter().flat_map(|vector| &vector.checks);
     let answered = |number| {
         let of = |check: &&Check| matches!(check.answer, Answer::Numbers(status, _) if status == number);
         checks().filter(of).count()
     };
-    let mut out = format!("sections {}\nchecks {}\n", vectors.len(), checks().count());
+    let mut out = format!("{file}:\nsections {}\nchecks {}\n", vectors.len(), checks().count());
     let bytes = checks().filter(|check| check.call.answers_bytes()).count();
     let rows = [("read", answered(0)), ("refused 1", answered(1)), ("refused 2", answered(2))];
     let more = [("refused 19", answered(19)), ("refused 20", answered(20)), ("bytes", bytes)];

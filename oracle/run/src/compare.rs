@@ -124,15 +124,15 @@ pub fn lent(need: usize, room: usize) -> usize {
     }
 }
 
-/// Which numbers of a list are asked for: all, or of long lists the first and last and some between, fewer of a long section.
+/// Which numbers of a list are asked for: all, or in a long section the first, the last and some between.
 pub fn sampled(section: usize) -> impl Fn(usize) -> Vec<usize> {
-    let few = if section < 1 << 16 { 16 } else { 4 };
+    const SOME: usize = 16;
     move |length| {
-        if length <= 3 * few {
+        if section < 1 << 16 || length <= 3 * SOME {
             return (0..length).collect();
         }
-        let between = (1..=few).map(|n| few + (length - 2 * few) * n / (few + 1));
-        (0..few).chain(between).chain(length - few..length).collect()
+        let between = (1..=SOME).map(|n| SOME + (length - 2 * SOME) * n / (SOME + 1));
+        (0..SOME).chain(between).chain(length - SOME..length).collect()
     }
 }
 

@@ -93,3 +93,16 @@ impl Call {
         if self == Self::BoneInterpolation { 16 } else { 0 }
     }
 }
+
+#[cfg(test)]
+mod tests {
+    use super::*;
+
+    /// The numbers that `crates/replay` knows the calls by.
+    #[test]
+    fn calls_by_number() {
+        assert!(CALLS.iter().zip(0..).all(|(call, number)| *call as u8 == number));
+        assert_eq!(CALLS.iter().position(|call| call.answers_bytes()), Some(19));
+        assert_eq!(CALLS[30], Call::BoneInterpolation);
+    }
+}

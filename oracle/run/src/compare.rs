@@ -76,39 +76,35 @@ impl Comparison {
         *self.by_call.entry(check.call).or_default() += 1;
         let Check { call, arguments, answer } = check;
         let (section, start) = (&case.section, case.start);
-        let told = |lent: usize, what: &str| Some(format!("{} {arguments:?}, {lent} lent: {what}", call.name()));
-        match answer {
+        let (lent, found) = match answer {
             Answer::Numbers(status, numbers) => {
                 *self.by_status.entry(*status).or_default() += 1;
-                let lent = lent(numbers.len(), room);
                 self.numbers.clear();
-                self.numbers.resize(lent, BEFORE_NUMBER);
+                self.numbers.resize(lent(numbers.len(), room), BEFORE_NUMBER);
                 let found = other.numbers(*call, section, start, *arguments, &mut self.numbers);
-                self.compared += 1 + lent as u64;
-                if found != *status {
-                    return told(lent, &format!("status {found} instead of {status}"));
-                }
-                let expected = numbers.iter().copied().chain(std::iter::repeat(BEFORE_NUMBER));
-                let mut pairs = self.numbers.iter().copied().zip(expected).enumerate();
-                let (place, (found, expected)) = pairs.find(|(_, (found, expected))| found != expected)?;
-                told(lent, &format!("[{place}] {found} instead of {expected}"))
+                let returned = (found != *status).then(|| format!("status {found} instead of {status}"));
+                (self.numbers.len(), returned.or_else(|| wrong_place(&self.numbers, numbers, BEFORE_NUMBER)))
             }
             Answer::Bytes(bytes) => {
-                let lent = lent(bytes.len(), room);
                 self.bytes.clear();
-                self.bytes.resize(lent, BEFORE);
+                self.bytes.resize(lent(bytes.len(), room), BEFORE);
                 let found = other.bytes(*call, section, start, *arguments, &mut self.bytes);
-                self.compared += 1 + lent as u64;
-                if found != bytes.len() as u64 {
-                    return told(lent, &format!("length {found} instead of {}", bytes.len()));
-                }
-                let expected = bytes.iter().copied().chain(std::iter::repeat(BEFORE));
-                let mut pairs = self.bytes.iter().copied().zip(expected).enumerate();
-                let (place, (found, expected)) = pairs.find(|(_, (found, expected))| found != expected)?;
-                told(lent, &format!("[{place}] {found} instead of {expected}"))
+                let length = bytes.len() as u64;
+                let returned = (found != length).then(|| format!("length {found} instead of {length}"));
+                (self.bytes.len(), returned.or_else(|| wrong_place(&self.bytes, bytes, BEFORE)))
             }
-        }
+        };
+        self.compared += 1 + lent as u64;
+        Some(format!("{} {arguments:?}, {lent} lent: {}", call.name(), found?))
     }
+}
+
+/// The first place that holds neither the answer nor, behind it, what it held before.
+fn wrong_place<T: Copy + PartialEq + fmt::Display>(found: &[T], answer: &[T], before: T) -> Option<String> {
+    let expected = answer.iter().copied().chain(std::iter::repeat(before));
+    let mut places = found.iter().copied().zip(expected).enumerate();
+    let (place, (found, expected)) = places.find(|(_, (found, expected))| found != expected)?;
+    Some(format!("[{place}] {found} instead of {expected}"))
 }
 
 /// How many places are lent where `need` are needed: nothing, one, half, one too few, just enough, one more, or many more.

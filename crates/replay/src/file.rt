@@ -1,8 +1,8 @@
 // A file of sections, each with its checks.
+use crate::byte_calls;
 use crate::check;
 use crate::fields;
-use crate::numbers;
-use crate::parts;
+use crate::number_calls;
 use crate::tally;
 use libc::STDOUT_FILENO;
 
@@ -11,9 +11,17 @@ fn make(checks: &[u8], at: usize, section: &[u8], start: usize, tally: &mut [u64
     tally::add(tally, tally::CHECKS);
     let c = check::read(checks, at);
     if check::answers_bytes(c) {
-        tally::add_check(tally, tally::BYTES, parts::right(checks, c, section, start));
+        tally::add_check(
+            tally,
+            tally::BYTES,
+            byte_calls::right(checks, c, section, start),
+        );
     } else {
-        tally::add_check(tally, c.returned, numbers::right(checks, c, section, start));
+        tally::add_check(
+            tally,
+            c.returned,
+            number_calls::right(checks, c, section, start),
+        );
     }
     check::next(c)
 }

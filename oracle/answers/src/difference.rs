@@ -1,11 +1,9 @@
-//! The first difference of two answers, in words.
+//! The first difference of two strips or refusals, in words.
 
 use std::fmt::Debug;
 
-use crate::model::{Model, Record};
 use crate::refusal::Refusal;
 use crate::strip::Strip;
-use crate::track::Track;
 
 pub trait Difference {
     /// Where `other` first differs, what it has there and what was expected; none if they are alike.
@@ -26,13 +24,7 @@ macro_rules! by_value {
     )*};
 }
 
-by_value!(bool, u8, u16, u64, [u32; 2], Refusal);
-
-impl Difference for (&str, u64) {
-    fn difference(&self, other: &Self) -> Option<String> {
-        values(self, other)
-    }
-}
+by_value!(u8, u16, u64, Refusal);
 
 impl<T: Difference> Difference for Vec<T> {
     fn difference(&self, other: &Self) -> Option<String> {
@@ -40,6 +32,20 @@ impl<T: Difference> Difference for Vec<T> {
         let first = pairs.find_map(|(n, (a, b))| Some(format!("[{n}] {}", a.difference(b)?)));
         let length = || Some(format!("length {}", values(&self.len(), &other.len())?));
         first.or_else(length)
+    }
+}
+
+impl Difference for Strip {
+    fn difference(&self, other: &Self) -> Option<String> {
+        let Strip { bytes, reached, loose, positions, tracks } = self;
+        let found = [
+            ("bytes", bytes.difference(&other.bytes)),
+            ("reached", reached.difference(&other.reached)),
+            ("loose", loose.difference(&other.loose)),
+            ("positions", positions.difference(&other.positions)),
+            ("tracks", tracks.difference(&other.tracks)),
+        ];
+        found.into_iter().find_map(|(field, found)| Some(format!("{field} {}", found?)))
     }
 }
 
@@ -53,28 +59,3 @@ impl<T: Difference + Debug> Difference for Result<T, Refusal> {
         }
     }
 }
-
-macro_rules! by_field {
-    ($type:ident: $($field:ident),* $(,)?) => {
-        impl Difference for $type {
-            fn difference(&self, other: &Self) -> Option<String> {
-                let $type { $($field),* } = self;
-                $(if let Some(found) = $field.difference(&other.$field) {
-                    return Some(format!("{} {found}", stringify!($field)));
-                })*
-                None
-            }
-        }
-    };
-}
-
-by_field!(Record: scalars, payload_bytes, constraint_states, outside_parent_indices);
-by_field!(Track: scalars, initial_keyframe, keyframe_summaries);
-by_field!(Strip: bytes, reached, loose, positions, tracks);
-by_field!(
-    Model: scalars, sections, name, english_name, path, bone_names, morph_names,
-    initial_bone_keyframe_summaries, bone_keyframe_summaries, initial_morph_keyframe_summaries,
-    morph_keyframe_summaries, initial_model_keyframe, model_keyframe_summaries,
-    bone_state_summaries, morph_state_summaries, constraint_state_summaries,
-    outside_parent_state_summaries,
-);

@@ -23,6 +23,8 @@ pub struct Walked {
     pub limit: Option<Refusal>,
     /// The most bytes that the Rust would reserve at once.
     pub reserved: u64,
+    /// Offset and length of each text: name, English name, bone names, morph names.
+    pub texts: Vec<(u64, u64)>,
 }
 
 impl Walked {
@@ -70,14 +72,15 @@ struct Walk<'a> {
     at: u64,
     limit: Option<Refusal>,
     reserved: u64,
+    texts: Vec<(u64, u64)>,
 }
 
 fn walk(section: &[u8], start: u64, way: impl Fn(&mut Walk) -> Step<()>) -> Walked {
     let too_long = section.len() > LENGTH_LIMIT;
     let limit = too_long.then(|| Refusal { number: 16, kind: None, values: Vec::new() });
-    let mut walk = Walk { section, at: start, limit, reserved: 0 };
+    let mut walk = Walk { section, at: start, limit, reserved: 0, texts: Vec::new() };
     let end = way(&mut walk).map(|()| walk.at);
-    Walked { end, limit: walk.limit, reserved: walk.reserved }
+    Walked { end, limit: walk.limit, reserved: walk.reserved, texts: walk.texts }
 }
 
 impl<'a> Walk<'a> {
@@ -102,6 +105,7 @@ impl<'a> Walk<'a> {
 
     fn string(&mut self) -> Step<()> {
         let length = self.byte()?;
+        self.texts.push((self.at, length));
         self.item(length).map(drop)
     }
 

@@ -1,5 +1,6 @@
-//! Cases run through the Rust, and through another implementation once there is one.
+//! Cases run through the Rust, held against another implementation, and written down to be replayed.
 
+pub mod compare;
 pub mod expected;
-pub mod other;
 pub mod tally;
+pub mod vectors;

@@ -1,22 +1,29 @@
 //! `oracle self [CASES] [SEED]` runs the Rust on generated cases and counts what it met.
+//! `oracle compare [CASES] [SEED]` holds the proved library against it.
+//! `oracle vectors CRATE` writes a sample of the Rust's answers for the program that replays them.
 //! `oracle case SEED NUMBER` shows one case and what is expected of it.
 
 use std::env;
+use std::path::Path;
 use std::process::ExitCode;
 use std::time::Instant;
 
 use generate::case;
 use run::expected::{Expected, Summary, expected};
 use run::tally::Tally;
+use run::vectors;
 
 fn main() -> ExitCode {
     let arguments: Vec<String> = env::args().skip(1).collect();
     let number = |n: usize| arguments.get(n).and_then(|word| word.parse().ok());
-    match arguments.first().map(String::as_str) {
-        Some("self") => own(number(1).unwrap_or(100_000), number(2).unwrap_or(1)),
-        Some("case") => one(number(1).unwrap_or(1), number(2).unwrap_or(0)),
+    match (arguments.first().map(String::as_str), arguments.get(1)) {
+        (Some("self"), _) => own(number(1).unwrap_or(100_000), number(2).unwrap_or(1)),
+        (Some("compare"), _) => compare(number(1).unwrap_or(100_000), number(2).unwrap_or(1)),
+        (Some("vectors"), Some(folder)) => written(vectors::write(Path::new(folder))),
+        (Some("case"), _) => one(number(1).unwrap_or(1), number(2).unwrap_or(0)),
         _ => {
-            eprintln!("oracle self [CASES] [SEED]\noracle case SEED NUMBER");
+            eprintln!("oracle self [CASES] [SEED]\noracle compare [CASES] [SEED]");
+            eprintln!("oracle vectors CRATE\noracle case SEED NUMBER");
             ExitCode::FAILURE
         }
     }
@@ -28,11 +35,47 @@ fn own(cases: u64, seed: u64) -> ExitCode {
     let mut tally = Tally::default();
     for number in 0..cases {
         let (family, case) = case(seed, number);
-        tally.add(family, number, expected(&case));
+        tally.add(family, number, &expected(&case));
     }
     print!("{tally}");
     println!("{:.1} s", began.elapsed().as_secs_f64());
     if tally.contradictions() == 0 { ExitCode::SUCCESS } else { ExitCode::FAILURE }
+}
+
+#[cfg(feature = "library")]
+fn compare(cases: u64, seed: u64) -> ExitCode {
+    println!("seed {seed}, {cases} cases");
+    let began = Instant::now();
+    let mut tally = Tally::default();
+    let mut comparison = run::compare::Comparison::default();
+    for number in 0..cases {
+        let (family, case) = case(seed, number);
+        let expected = expected(&case);
+        tally.add(family, number, &expected);
+        comparison.case(number, &case, &expected, &library::Library);
+    }
+    print!("{tally}{comparison}");
+    println!("{:.1} s", began.elapsed().as_secs_f64());
+    if comparison.differences() == 0 { ExitCode::SUCCESS } else { ExitCode::FAILURE }
+}
+
+#[cfg(not(feature = "library"))]
+fn compare(_: u64, _: u64) -> ExitCode {
+    eprintln!("built without the feature `library`");
+    ExitCode::FAILURE
+}
+
+fn written(done: std::io::Result<String>) -> ExitCode {
+    match done {
+        Ok(told) => {
+            print!("{told}");
+            ExitCode::SUCCESS
+        }
+        Err(error) => {
+            eprintln!("{error}");
+            ExitCode::FAILURE
+        }
+    }
 }
 
 fn one(seed: u64, number: u64) -> ExitCode {
@@ -43,7 +86,7 @@ fn one(seed: u64, number: u64) -> ExitCode {
     case.section.chunks(32).take(64).for_each(|line| println!("{}", hex(line)));
     match expected(&case) {
         Err(contradiction) => println!("{contradiction}"),
-        Ok(Expected { read, strip, set_apart }) => {
+        Ok(Expected { read, strip, set_apart, .. }) => {
             match read {
                 Ok(Summary::Model(model)) => println!("{model:?}"),
                 Ok(Summary::Track(track)) => println!("{track:?}"),

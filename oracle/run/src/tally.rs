@@ -24,15 +24,15 @@ struct Family {
 }
 
 impl Tally {
-    pub fn add(&mut self, family: &'static str, number: u64, expected: Result<Expected, String>) {
+    pub fn add(&mut self, family: &'static str, number: u64, expected: &Result<Expected, String>) {
         let row = self.families.entry(family).or_default();
         row.cases += 1;
-        let Expected { read, strip, set_apart } = match expected {
+        let Expected { read, strip, set_apart, .. } = match expected {
             Ok(expected) => expected,
             Err(contradiction) => return self.contradictions.push(format!("case {number}: {contradiction}")),
         };
         row.read += usize::from(read.is_ok());
-        row.set_apart += usize::from(set_apart);
+        row.set_apart += usize::from(*set_apart);
         row.built += usize::from(matches!(strip, Some(Ok(_))));
         row.refused += usize::from(matches!(strip, Some(Err(_))) && read.is_ok());
         let refusal = match (read, strip) {
@@ -40,7 +40,7 @@ impl Tally {
             _ => return,
         };
         let Refusal { number, kind, .. } = refusal;
-        *self.numbers.entry((number, kind)).or_default() += 1;
+        *self.numbers.entry((*number, *kind)).or_default() += 1;
     }
 
     pub fn contradictions(&self) -> usize {

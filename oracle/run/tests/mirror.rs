@@ -1,86 +1,104 @@
 //! The comparison itself: the Rust agrees with itself, and each sort of change is noticed.
 
-use answers::{Model, Refusal, Strip, Track, model, strip, track, walk};
-use generate::{Kind, case};
-use run::other::{Other, difference};
+use std::collections::HashMap;
 
-/// The Rust's own answers, with the walk's refusals, and a change made to each.
-struct Mirror {
-    model: fn(&mut Model),
-    track: fn(&mut Track),
+use answers::{Refusal, Strip};
+use calls::{Answer, Arguments, Call, Other};
+use generate::{Case, case};
+use run::compare::{Comparison, each_check, sampled};
+use run::expected::{Expected, expected};
+
+/// The answers expected of a case, given back with a change.
+struct Mirror<'a> {
+    answers: HashMap<(Call, Arguments), Answer>,
+    strip: Option<&'a Result<Strip, Refusal>>,
+    change: &'a Change,
+}
+
+struct Change {
+    status: fn(Call, u32) -> u32,
+    numbers: fn(Call, &mut [u64]),
+    length: fn(Call, u64) -> u64,
+    bytes: fn(Call, &mut [u8]),
     strip: fn(&mut Strip),
-    refusal: fn(&mut Refusal),
 }
 
-const SAME: Mirror = Mirror { model: |_| (), track: |_| (), strip: |_| (), refusal: |_| () };
+const SAME: Change = Change {
+    status: |_, status| status,
+    numbers: |_, _| (),
+    length: |_, length| length,
+    bytes: |_, _| (),
+    strip: |_| (),
+};
 
-impl Mirror {
-    fn refused(&self, mut refusal: Refusal) -> Refusal {
-        (self.refusal)(&mut refusal);
-        refusal
+impl Other for Mirror<'_> {
+    fn numbers(&self, call: Call, _: &[u8], _: u64, arguments: Arguments, values: &mut [u64]) -> u32 {
+        let Answer::Numbers(status, numbers) = &self.answers[&(call, arguments)] else { panic!("bytes") };
+        values.iter_mut().zip(numbers).for_each(|(place, number)| *place = *number);
+        (self.change.numbers)(call, values);
+        (self.change.status)(call, *status)
     }
 
-    fn track(&self, walked: walk::Walked, track: impl Fn() -> Option<Track>) -> Result<Track, Refusal> {
-        walked.answer().map_err(|refusal| self.refused(refusal))?;
-        let mut track = track().expect("read");
-        (self.track)(&mut track);
-        Ok(track)
-    }
-}
-
-impl Other for Mirror {
-    fn model(&self, section: &[u8], start: u64) -> Result<Model, Refusal> {
-        walk::model(section, start).answer().map_err(|refusal| self.refused(refusal))?;
-        let mut model = model::model(&model::summary(section, start).expect("read"));
-        (self.model)(&mut model);
-        Ok(model)
+    fn bytes(&self, call: Call, _: &[u8], _: u64, arguments: Arguments, output: &mut [u8]) -> u64 {
+        let Answer::Bytes(bytes) = &self.answers[&(call, arguments)] else { panic!("numbers") };
+        output.iter_mut().zip(bytes).for_each(|(place, byte)| *place = *byte);
+        (self.change.bytes)(call, output);
+        (self.change.length)(call, bytes.len() as u64)
     }
 
-    fn camera(&self, section: &[u8], start: u64) -> Result<Track, Refusal> {
-        self.track(walk::camera(section, start), || track::camera(section, start))
-    }
-
-    fn light(&self, section: &[u8], start: u64) -> Result<Track, Refusal> {
-        self.track(walk::light(section, start), || track::light(section, start))
-    }
-
-    fn strip(&self, section: &[u8], start: u64) -> Result<Strip, Refusal> {
-        walk::model(section, start).answer()?;
-        let mut strip =
-            strip::strip(&model::summary(section, start).expect("read")).map_err(|refusal| self.refused(refusal))?;
-        (self.strip)(&mut strip);
-        Ok(strip)
+    fn strip(&self, _: &[u8], _: u64) -> Option<Result<Strip, Refusal>> {
+        let mut strip = self.strip?.clone();
+        strip.iter_mut().for_each(self.change.strip);
+        Some(strip)
     }
 }
 
-/// How many of some cases show a difference.
-fn differences(other: &Mirror, of: fn(Kind) -> bool) -> usize {
-    let cases = (0..1000).map(|number| case(5, number).1).filter(|case| of(case.kind));
-    cases.filter(|case| difference(case, other).is_some()).count()
+fn mirror<'a>(case: &Case, number: u64, expected: &'a Expected, change: &'a Change) -> Mirror<'a> {
+    let mut answers = HashMap::new();
+    each_check(case, expected, number as usize, sampled(case.section.len()), |check| {
+        answers.insert((check.call, check.arguments), check.answer);
+    });
+    Mirror { answers, strip: expected.strip.as_ref(), change }
+}
+
+/// How many differences some cases show.
+fn differences(change: &Change) -> u64 {
+    let mut comparison = Comparison::default();
+    for number in 0..300 {
+        let case = case(5, number).1;
+        let expected = expected(&case).expect("no contradiction");
+        let mirror = mirror(&case, number, &expected, change);
+        comparison.case(number, &case, &Ok(expected.clone()), &mirror);
+    }
+    comparison.differences()
 }
 
 #[test]
 fn the_rust_agrees_with_itself() {
-    assert_eq!(differences(&SAME, |_| true), 0);
+    assert_eq!(differences(&SAME), 0);
 }
 
 #[test]
 fn changes_are_noticed() {
-    let model = |kind| kind == Kind::Model;
-    let track = |kind| kind != Kind::Model;
-    assert!(differences(&Mirror { model: |model| model.scalars[0].1 ^= 1, ..SAME }, model) > 100);
-    assert!(differences(&Mirror { model: |model| model.name.push(1), ..SAME }, model) > 100);
-    let last = |model: &mut Model| model.bone_keyframe_summaries.truncate(1);
-    assert!(differences(&Mirror { model: last, ..SAME }, model) > 100);
-    assert!(differences(&Mirror { track: |track| track.initial_keyframe.payload_bytes[0] ^= 1, ..SAME }, track) > 30);
-    assert!(differences(&Mirror { strip: |strip| strip.bytes.push(0), ..SAME }, model) > 100);
-    assert!(differences(&Mirror { strip: |strip| strip.loose += 1, ..SAME }, model) > 100);
-    assert!(differences(&Mirror { refusal: |refusal| refusal.number += 1, ..SAME }, |_| true) > 100);
-    assert!(differences(&Mirror { refusal: |refusal| refusal.values.clear(), ..SAME }, track) > 30);
-}
-
-/// Zero bytes at the end of a name are all that the comparison passes over.
-#[test]
-fn last_zeros_of_names_are_passed_over() {
-    assert_eq!(differences(&Mirror { model: |model| model.name.push(0), ..SAME }, |_| true), 0);
+    let first = |call: Call, values: &mut [u64]| {
+        if call == Call::LightSummary {
+            values.iter_mut().take(1).for_each(|value| *value ^= 1);
+        }
+    };
+    assert!(differences(&Change { numbers: first, ..SAME }) > 10);
+    let last = |_: Call, values: &mut [u64]| values.iter_mut().last().into_iter().for_each(|value| *value = 0);
+    assert!(differences(&Change { numbers: last, ..SAME }) > 1000);
+    let byte = |call: Call, bytes: &mut [u8]| {
+        if call == Call::BoneInterpolation {
+            bytes.iter_mut().take(1).for_each(|value| *value ^= 1);
+        }
+    };
+    assert!(differences(&Change { bytes: byte, ..SAME }) > 100);
+    let length = |call: Call, length: u64| length + u64::from(call == Call::Path);
+    assert!(differences(&Change { length, ..SAME }) > 100);
+    let absent = |_: Call, status: u32| if status == 19 { 0 } else { status };
+    assert!(differences(&Change { status: absent, ..SAME }) > 1000);
+    let short = |_: Call, status: u32| if status == 1 { 2 } else { status };
+    assert!(differences(&Change { status: short, ..SAME }) > 100);
+    assert!(differences(&Change { strip: |strip| strip.loose += 1, ..SAME }) > 50);
 }

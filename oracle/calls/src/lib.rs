@@ -1,0 +1,10 @@
+//! The library's calls, and what the Rust's answers ask of each.
+
+pub mod call;
+pub mod checks;
+pub mod lists;
+pub mod other;
+
+pub use call::{Arguments, Call};
+pub use checks::{Answer, Check, Read};
+pub use other::Other;

@@ -32,8 +32,10 @@ read (declined why) = refuses (why .number) (why .values)
 
 abbrev pub stripped : Outcome → Given
 stripped o =
-    elim (o .answer) [ answered b ↦ accepts (take (b .length) (o .output)) (b .reached) (b .loose) (o .first) (o .second)
-    | declined why ↦ refuses (why .number) (why .values) ]
+    elim (o .answer) [
+      | answered b ↦ accepts (take (b .length) (o .output)) (b .reached) (b .loose) (o .first) (o .second)
+      | declined why ↦ refuses (why .number) (why .values)
+    ]
 
 -- The slices that are lent for a strip hold nines.
 abbrev pub given : Question → List ℕ → Given
@@ -55,17 +57,17 @@ table =
     ∷ record { asked = strip; section = oneBone; gives = accepts (1 ∷ 0 ∷ 0 ∷ 0 ∷ 1 ∷ 0 ∷ 0 ∷ 0 ∷ 0 ∷ 0 ∷ 0 ∷ []) 0 0 (9 ∷ 9 ∷ []) (9 ∷ 9 ∷ []) }
     ∷ record { asked = strip; section = withoutOrientation; gives = refuses 13 (pos 0 ∷ pos 0 ∷ []) }
     ∷ record {
-        asked = strip;
-        section = linked 1 1 0 0;
-        gives = accepts (1 ∷ 0 ∷ 0 ∷ 0 ∷ 2 ∷ 0 ∷ 0 ∷ 0 ∷ 0 ∷ 0 ∷ 0 ∷ 1 ∷ 0 ∷ 0 ∷ 0 ∷ 0 ∷ []) 1 0 (0 ∷ 9 ∷ []) (1 ∷ 9 ∷ []);
-      }
+      asked = strip;
+      section = linked 1 1 0 0;
+      gives = accepts (1 ∷ 0 ∷ 0 ∷ 0 ∷ 2 ∷ 0 ∷ 0 ∷ 0 ∷ 0 ∷ 0 ∷ 0 ∷ 1 ∷ 0 ∷ 0 ∷ 0 ∷ 0 ∷ []) 1 0 (0 ∷ 9 ∷ []) (1 ∷ 9 ∷ []);
+    }
     ∷ record { asked = strip; section = linked 1 0 0 0; gives = refuses 4 (pos 0 ∷ pos 0 ∷ pos 1 ∷ []) }
     ∷ record { asked = strip; section = linked 1 1 0 1; gives = refuses 7 (pos 0 ∷ pos 0 ∷ pos 1 ∷ []) }
     ∷ record { asked = strip; section = linked 1 1 5 0; gives = refuses 8 (pos 0 ∷ pos 0 ∷ pos 1 ∷ pos 5 ∷ pos 0 ∷ []) }
     ∷ record { asked = strip; section = linked 0 1 0 7; gives = refuses 15 (pos 0 ∷ pos 1 ∷ []) }
     ∷ record {
-        asked = strip;
-        section = linked 0 1 0 0;
-        gives = accepts (1 ∷ 0 ∷ 0 ∷ 0 ∷ 1 ∷ 0 ∷ 0 ∷ 0 ∷ 0 ∷ 0 ∷ 0 ∷ []) 0 1 (0 ∷ 9 ∷ []) (0 ∷ 9 ∷ []);
-      }
+      asked = strip;
+      section = linked 0 1 0 0;
+      gives = accepts (1 ∷ 0 ∷ 0 ∷ 0 ∷ 1 ∷ 0 ∷ 0 ∷ 0 ∷ 0 ∷ 0 ∷ 0 ∷ []) 0 1 (0 ∷ 9 ∷ []) (0 ∷ 9 ∷ []);
+    }
     ∷ []

@@ -50,12 +50,12 @@ module _ {A B : Type 0} (f : A → B) where
         on : Answer (List ℕ) → ℕ → Answer (List ℕ)
         on rest p =
             unless (given (member p visited) (refusalOf kind 7 (pos t ∷ signed link ∷ []))
-                    or given (not (eqb (r .at p .previous) expected)) (refusalOf kind 8 (pos t ∷ signed link ∷ signed (r .at p .previous) ∷ signed expected ∷ [])))
+            or given (not (eqb (r .at p .previous) expected)) (refusalOf kind 8 (pos t ∷ signed link ∷ signed (r .at p .previous) ∷ signed expected ∷ [])))
             (with p rest)
 
         start : (at : Option ℕ) → ((p : ℕ) → follow kind (recordsBody r) t n (p ∷ visited) link (r .at p .next) ≡ follow kind r t n (p ∷ visited) link (r .at p .next))
             → cond (eqb link 0) (answered []) (found at (refusalOf kind 6 (pos t ∷ signed link ∷ [])) (λ p. on (follow kind (recordsBody r) t n (p ∷ visited) link (r .at p .next)) p))
-              ≡ cond (eqb link 0) (answered []) (found at (refusalOf kind 6 (pos t ∷ signed link ∷ [])) (λ p. on (follow kind r t n (p ∷ visited) link (r .at p .next)) p))
+            ≡ cond (eqb link 0) (answered []) (found at (refusalOf kind 6 (pos t ∷ signed link ∷ [])) (λ p. on (follow kind r t n (p ∷ visited) link (r .at p .next)) p))
         start none same = refl
         start (some p) same = rw (same p)
 

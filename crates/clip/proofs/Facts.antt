@@ -84,11 +84,11 @@ block-is tracks initialItems additionalItems limit s at k next e =
     let e3 = times-end (c .value) additionalItems s (c .at) (f .at) (f .first) in
     subst (λ (k : Keyframes). Block tracks (size initialItems) (size additionalItems) limit at next k) is
     (record {
-       begins = refl;
-       offset = omega (arith, e1, e2);
-       ends = sym ends ∙ e3;
-       within = counted limit s (a .at) (c .value) (c .at) (c .first) .within;
-     })
+      begins = refl;
+      offset = omega (arith, e1, e2);
+      ends = sym ends ∙ e3;
+      within = counted limit s (a .at) (c .value) (c .at) (c .first) .within;
+    })
 
 -- The blocks of bones and morphs.
 pub record Blocks (limits : Limits) (s : List ℕ) (m : Model) : Type 0 where
@@ -156,12 +156,12 @@ two-blocks limits c s at k next e =
     let e2 = last .ends in
     subst (λ (k : KeyframeBlocks). TwoBlocks limits c at next k) is
     (record {
-       between = bones .at;
-       end = morphs .at;
-       bones = block-is (c .bones .count) (initial bone) (additional bone) (limits .additional) s at (bones .value) (bones .at) (bones .first);
-       morphs = block-is (c .morphs .count) (initial morph) (additional morph) (limits .additional) s (bones .at) (morphs .value) (morphs .at) (morphs .first);
-       more = omega (arith, e1, e2, ends);
-     })
+      between = bones .at;
+      end = morphs .at;
+      bones = block-is (c .bones .count) (initial bone) (additional bone) (limits .additional) s at (bones .value) (bones .at) (bones .first);
+      morphs = block-is (c .morphs .count) (initial morph) (additional morph) (limits .additional) s (bones .at) (morphs .value) (morphs .at) (morphs .first);
+      more = omega (arith, e1, e2, ends);
+    })
 
 -- The states stand behind the records, and the first item behind them is whole.
 states-behind : (c : Counts) (s : List ℕ) (at : ℕ) (v : States) (next : ℕ) → states c s at ≡ fine v next → at ≤ next
@@ -205,15 +205,15 @@ blocks limits s start m end e = go (ltb (limits .length) (length s)) e
         let more = two .more in
         subst (λ (m : Model). Blocks limits s m) is
         (record {
-           at = f .at;
-           between = two .between;
-           end = two .end;
-           boneCount = counts .0;
-           morphCount = counts .1;
-           bones = two .bones;
-           morphs = two .morphs;
-           within = omega (arith, behind, last, more);
-         })
+          at = f .at;
+          between = two .between;
+          end = two .end;
+          boneCount = counts .0;
+          morphCount = counts .1;
+          bones = two .bones;
+          morphs = two .morphs;
+          within = omega (arith, behind, last, more);
+        })
 
     go : (b : Bool) → cond b (refused (refusal 16 [])) (modelParts limits s start) ≡ fine m end → Blocks limits s m
     go true e = absurd (let z : _≡_ {A = ℕ} 0 1 = cc in omega arith)

@@ -64,11 +64,11 @@ module _ {B : Type 0} (kind : Kind) (r : Records B) where
   unfolding scan indexRefusal
   scans x =
       none-first (r .additional) (indexRefusal kind r) (λ p lt.
-        let index = r .at p .index in
-        let low = x .positive p lt in
-        none-or _ _ (none-given _ _ (lt-leb (2 ^ 31) index (omega (arith, low))))
-          (none-or _ _ (none-given _ _ (le-ltb index (r .tracks) (x .above p lt)))
-            (none-given _ _ (false-any (λ q. eqb (r .at q .index) index) p (λ q less. ne-eqb (r .at q .index) index (λ same. let e = x .apart q p (omega (arith, less, lt)) lt same in omega (arith, e, less)))))))
+      let index = r .at p .index in
+      let low = x .positive p lt in
+      none-or _ _ (none-given _ _ (lt-leb (2 ^ 31) index (omega (arith, low))))
+      (none-or _ _ (none-given _ _ (le-ltb index (r .tracks) (x .above p lt)))
+      (none-given _ _ (false-any (λ q. eqb (r .at q .index) index) p (λ q less. ne-eqb (r .at q .index) index (λ same. let e = x .apart q p (omega (arith, less, lt)) lt same in omega (arith, e, less)))))))
 
 module _ {B : Type 0} (r : Records B) where
   pub record-of : (link p : ℕ) → recordOf r link ≡ some p → (p < r .additional) × (r .at p .index ≡ link)

@@ -51,9 +51,13 @@ module _ {B : Type 0} (r₁ r₂ : Records B) (m : Matched r₁ r₂) where
   carried : (ps : List ℕ) (expected link : ℕ) → Chained r₁ expected link ps → Chained r₂ expected link (map (m .pair) ps)
   carried [] expected link c = c
   carried (p ∷ ps) expected link c =
-      let same = m .same p (c .1) in
-      (c .0, m .within p (c .1), sym (ap (λ a. a .index) same) ∙ c .2, sym (ap (λ a. a .previous) same) ∙ c .3,
-       subst (λ next. Chained r₂ link next (map (m .pair) ps)) (ap (λ a. a .next) same) (carried ps link (r₁ .at p .next) (c .4)))
+      let same = m .same p (c .1) in (
+        c .0,
+        m .within p (c .1),
+        sym (ap (λ a. a .index) same) ∙ c .2,
+        sym (ap (λ a. a .previous) same) ∙ c .3,
+        subst (λ next. Chained r₂ link next (map (m .pair) ps)) (ap (λ a. a .next) same) (carried ps link (r₁ .at p .next) (c .4)),
+      )
 
   same-records : (ps : List ℕ) → AllBelow (r₁ .additional) ps → map (λ p. recordKey (r₂ .at p)) (map (m .pair) ps) ≡ map (λ p. recordKey (r₁ .at p)) ps
   same-records [] b = refl
@@ -110,16 +114,16 @@ module _ {B : Type 0} (r₁ r₂ : Records B) (m : Matched r₁ r₂) where
     indexed₂ idle =
         record {
           positive = λ q lt. split q
-            (λ from. let low = s₁ .indexed .positive (from .source) (from .below) in let e = index-of q from in omega (arith, low, e))
-            (λ unpaired. let low = leb-false (2 ^ 31) (r₂ .at q .index) (idle q lt unpaired .positive) in omega (arith, low));
+              (λ from. let low = s₁ .indexed .positive (from .source) (from .below) in let e = index-of q from in omega (arith, low, e))
+              (λ unpaired. let low = leb-false (2 ^ 31) (r₂ .at q .index) (idle q lt unpaired .positive) in omega (arith, low));
           above = λ q lt. split q
-            (λ from. let high = s₁ .indexed .above (from .source) (from .below) in let e = index-of q from in let n = m .tracks in omega (arith, high, e, n))
-            (λ unpaired. idle q lt unpaired .above);
+              (λ from. let high = s₁ .indexed .above (from .source) (from .below) in let e = index-of q from in let n = m .tracks in omega (arith, high, e, n))
+              (λ unpaired. idle q lt unpaired .above);
           apart = λ q k lq lk e. split q
-            (λ from. split k
+              (λ from. split k
               (λ from′. sym (from .is) ∙ ap (m .pair) (s₁ .indexed .apart (from .source) (from′ .source) (from .below) (from′ .below) (sym (index-of q from) ∙ e ∙ index-of k from′)) ∙ from′ .is)
               (λ unpaired. same q k (ℕ-discrete q k) (λ other. idle k lk unpaired .alone q lq other e)))
-            (λ unpaired. same q k (ℕ-discrete q k) (λ other. idle q lq unpaired .alone k lk (λ back. other (sym back)) (sym e)));
+              (λ unpaired. same q k (ℕ-discrete q k) (λ other. idle q lq unpaired .alone k lk (λ back. other (sym back)) (sym e)));
         }
       where
         index-of : (q : ℕ) (from : From (m .pair) (r₁ .additional) q) → r₂ .at q .index ≡ r₁ .at (from .source) .index
@@ -137,14 +141,14 @@ module _ {B : Type 0} (r₁ r₂ : Records B) (m : Matched r₁ r₂) where
           of = of₂;
           chained = chained₂;
           pass = λ t lt₂.
-            let lt : t < r₁ .tracks = rw (m .tracks) lt₂ in
-            subst (λ ks. KeysPass (test t) [] ks) (sym (same-keys t (s₁ .of t) lt (all-below r₁ (s₁ .of t) t (r₁ .initial t .next) (s₁ .chained t lt)))) (s₁ .pass t lt);
+              let lt : t < r₁ .tracks = rw (m .tracks) lt₂ in
+              subst (λ ks. KeysPass (test t) [] ks) (sym (same-keys t (s₁ .of t) lt (all-below r₁ (s₁ .of t) t (r₁ .initial t .next) (s₁ .chained t lt)))) (s₁ .pass t lt);
           idle = λ q lt out. split q
-            (λ from.
+              (λ from.
               let same = m .same (from .source) (from .below) in
               let links = s₁ .idle (from .source) (from .below) (λ t is. go q from t (out t (rw (m .tracks) at is)) (member (from .source) (s₁ .of t)) refl) in
               (subst (λ k. r₂ .at k .previous ≡ 0) (from .is) (sym (ap (λ a. a .previous) same) ∙ links .0), subst (λ k. r₂ .at k .next ≡ 0) (from .is) (sym (ap (λ a. a .next) same) ∙ links .1)))
-            (λ unpaired. let free = idle q lt unpaired in (free .previous, free .next));
+              (λ unpaired. let free = idle q lt unpaired in (free .previous, free .next));
         }
       where
         go : (q : ℕ) (from : From (m .pair) (r₁ .additional) q) (t : ℕ) → member q (map (m .pair) (s₁ .of t)) ≡ false → (b : Bool) → member (from .source) (s₁ .of t) ≡ b → b ≡ false

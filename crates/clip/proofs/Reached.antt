@@ -43,5 +43,5 @@ module _ {B : Type 0} (kind : Kind) (test : KeyTest B) (r : Records B) (s : Soun
   reached-and-loose =
       let parts = number-parts (r .additional) (reached kind r) (bothLinksZero kind r) in
       let none-left : number (r .additional) (λ p. not (reached kind r p) && not (bothLinksZero kind r p)) ≡ 0 =
-          idle-left kind test r (λ p lt out. s .idle p lt (λ t is. rw (chain-of kind test r s t is) at (out t is))) in
+      idle-left kind test r (λ p lt out. s .idle p lt (λ t is. rw (chain-of kind test r s t is) at (out t is))) in
       omega (arith, parts, none-left, reached-is)

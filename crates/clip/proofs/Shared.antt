@@ -72,8 +72,8 @@ module _ {B : Type 0} (kind : Kind) (r : Records B) where
   unfolding indexRefusal
   index-not-nine p =
       or-not-nine _ _ (given-not-nine (negative (r .at p .index)) kind 3 _ (λ (e : 3 ≡ 9). omega arith)) (λ e3.
-        or-not-nine _ _ (given-not-nine (ltb (r .at p .index) (r .tracks)) kind 4 _ (λ (e : 4 ≡ 9). omega arith)) (λ e4.
-          given-not-nine (any p (λ q. eqb (r .at q .index) (r .at p .index))) kind 5 _ (λ (e : 5 ≡ 9). omega arith)))
+      or-not-nine _ _ (given-not-nine (ltb (r .at p .index) (r .tracks)) kind 4 _ (λ (e : 4 ≡ 9). omega arith)) (λ e4.
+      given-not-nine (any p (λ q. eqb (r .at q .index) (r .at p .index))) kind 5 _ (λ (e : 5 ≡ 9). omega arith)))
 
   follow-not-nine : (t n : ℕ) (visited : List ℕ) (expected link : ℕ) → NineFree (follow kind r t n visited expected link)
   unfolding follow
@@ -106,21 +106,21 @@ module _ {B : Type 0} (kind : Kind) (test : KeyTest B) (tested : (t : ℕ) (befo
   records-not-nine t before (p ∷ ps) new =
       rw (new p (rw (eq-eqb p p refl)))
       (or-not-nine (test t before (recordKey (r .at p))) (recordsRefusal kind test r t (r .at p .frame ∷ before) ps) (tested t before (recordKey (r .at p)))
-        (λ e. records-not-nine t (r .at p .frame ∷ before) ps (λ q is. new q (true-or (eqb q p) (member q ps) is))))
+      (λ e. records-not-nine t (r .at p .frame ∷ before) ps (λ q is. new q (true-or (eqb q p) (member q ps) is))))
 
   track-not-nine : Indexed r → (t : ℕ) → t < r .tracks → NotNine (trackRefusal kind test r t)
   unfolding trackRefusal
   track-not-nine x t lt =
       or-not-nine (chainRefusal (chain kind r t)) _ (chain-not-nine kind r t) (λ e.
-        or-not-nine (test t [] (initialKey (r .initial t))) _ (tested t [] (initialKey (r .initial t))) (λ e.
-          records-not-nine t (r .initial t .frame ∷ []) (chainOf kind r t) (never-shared kind r x t lt)))
+      or-not-nine (test t [] (initialKey (r .initial t))) _ (tested t [] (initialKey (r .initial t))) (λ e.
+      records-not-nine t (r .initial t .frame ∷ []) (chainOf kind r t) (never-shared kind r x t lt)))
 
   pub never-nine : NotNine (buildRefusal kind test r)
   unfolding buildRefusal scan
   never-nine =
       or-not-nine (first (r .additional) (indexRefusal kind r)) _ (first-not-nine (r .additional) (indexRefusal kind r) (λ p lt. index-not-nine kind r p)) (λ scans.
-        or-not-nine (first (r .tracks) (trackRefusal kind test r)) _ (first-not-nine (r .tracks) (trackRefusal kind test r) (track-not-nine (scanned kind r scans))) (λ e.
-          given-not-nine (ltb 0 (disconnected kind r)) kind 15 _ (λ (e : 15 ≡ 9). omega arith)))
+      or-not-nine (first (r .tracks) (trackRefusal kind test r)) _ (first-not-nine (r .tracks) (trackRefusal kind test r) (track-not-nine (scanned kind r scans))) (λ e.
+      given-not-nine (ltb 0 (disconnected kind r)) kind 15 _ (λ (e : 15 ≡ 9). omega arith)))
 
 -- What is asked of a key is never 9 either.
 module _ {B : Type 0} (kind : Kind) (asked : B → Option ℕ) (other : (b : B) (n : ℕ) → asked b ≡ some n → n ≡ 9 → ⊥) where
@@ -128,7 +128,7 @@ module _ {B : Type 0} (kind : Kind) (asked : B → Option ℕ) (other : (b : B) 
   unfolding keyTest
   key-not-nine t before key =
       or-not-nine _ _ (given-not-nine (negative (key .frame)) kind 10 _ (λ (e : 10 ≡ 9). omega arith)) (λ e10.
-        or-not-nine _ _ (given-not-nine (member (key .frame) before) kind 11 _ (λ (e : 11 ≡ 9). omega arith)) (λ e11. go (asked (key .body)) refl))
+      or-not-nine _ _ (given-not-nine (member (key .frame) before) kind 11 _ (λ (e : 11 ≡ 9). omega arith)) (λ e11. go (asked (key .body)) refl))
     where
       go : (o : Option ℕ) → asked (key .body) ≡ o → NotNine (bodyRefusal o t (key .frame))
       go none e = nothing-met

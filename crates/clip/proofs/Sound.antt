@@ -151,7 +151,7 @@ module _ {B : Type 0} (kind : Kind) (test : KeyTest B) (r : Records B) where
     track-builds t lt =
         let found : chainRefusal (chain kind r t) ≡ none = rw (chain-found t lt) in
         let rest : recordsRefusal kind test r t (r .initial t .frame ∷ []) (chainOf kind r t) ≡ none =
-            rw (chain-of t lt) (pass-records t (r .initial t .frame ∷ []) (s .of t) (not-before t lt) (s .pass t lt .1)) in
+        rw (chain-of t lt) (pass-records t (r .initial t .frame ∷ []) (s .of t) (not-before t lt) (s .pass t lt .1)) in
         none-or _ _ found (none-or _ _ (s .pass t lt .0) rest)
 
     pub builds : buildRefusal kind test r ≡ none

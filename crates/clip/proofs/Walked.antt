@@ -105,7 +105,7 @@ module _ {B : Type 0} (kind : Kind) (r : Records B) (x : Indexed r) (t : ℕ) wh
   along (p ∷ ps) n visited e l e′ l′ c d f =
       rw (suc-add (length ps) n)
       (steps kind r t (length ps + n) visited e l (c .0) p (of-record r x l p (c .1) (c .2)) (f .0) (c .3)
-       ∙ ap (with p) (along ps n (p ∷ visited) l (r .at p .next) e′ l′ (c .4) (d .1) (fresh-cons p visited ps (d .0) (f .1))))
+      ∙ ap (with p) (along ps n (p ∷ visited) l (r .at p .next) e′ l′ (c .4) (d .1) (fresh-cons p visited ps (d .0) (f .1))))
 
   module _ (is-track : t < r .tracks) (ps : List ℕ) (e l : ℕ) (c : Linked r t (r .initial t .next) ps e l) where
     left : ℕ

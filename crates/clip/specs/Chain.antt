@@ -33,11 +33,11 @@ module _ {B : Type 0} (kind : Kind) (r : Records B) (track : ℕ) where
   follow zero visited expected link = declined (refusalOf kind 7 (pos track ∷ signed link ∷ []))
   follow (suc left) visited expected link =
       cond (eqb link 0) (answered []) (found (recordOf r link) (refusalOf kind 6 (pos track ∷ signed link ∷ [])) (λ p.
-        let rest = follow left (p ∷ visited) link (r .at p .next) in
-        unless (given (member p visited) (refusalOf kind 7 (pos track ∷ signed link ∷ []))
-                or given (not (eqb (r .at p .previous) expected))
-                   (refusalOf kind 8 (pos track ∷ signed link ∷ signed (r .at p .previous) ∷ signed expected ∷ [])))
-          (with p rest)))
+      let rest = follow left (p ∷ visited) link (r .at p .next) in
+      unless (given (member p visited) (refusalOf kind 7 (pos track ∷ signed link ∷ []))
+      or given (not (eqb (r .at p .previous) expected))
+      (refusalOf kind 8 (pos track ∷ signed link ∷ signed (r .at p .previous) ∷ signed expected ∷ [])))
+      (with p rest)))
 
   -- "Start at the initial record's next link, expecting its track number as previous link."
   unfoldable pub chain : Answer (List ℕ)

@@ -16,49 +16,49 @@ fn space() -> [u8; 4096]
 fn by_record(c: Check, section: &[u8], start: usize, output: &mut [u8]) -> usize {
     let call = c.call;
     match call {
-        24 => exports::bytes::limdroven_bone_payload(
+        24 => exports::payloads::limdroven_bone_payload(
             section,
             start,
             c.include_index,
             c.number,
             output,
         ),
-        25 => exports::bytes::limdroven_morph_payload(
+        25 => exports::payloads::limdroven_morph_payload(
             section,
             start,
             c.include_index,
             c.number,
             output,
         ),
-        26 => exports::bytes::limdroven_model_payload(
+        26 => exports::payloads::limdroven_model_payload(
             section,
             start,
             c.include_index,
             c.number,
             output,
         ),
-        27 => exports::bytes::limdroven_camera_payload(
+        27 => exports::payloads::limdroven_camera_payload(
             section,
             start,
             c.include_index,
             c.number,
             output,
         ),
-        28 => exports::bytes::limdroven_light_payload(
+        28 => exports::payloads::limdroven_light_payload(
             section,
             start,
             c.include_index,
             c.number,
             output,
         ),
-        29 => exports::bytes::limdroven_camera_interpolation(
+        29 => exports::interpolation::limdroven_camera_interpolation(
             section,
             start,
             c.include_index,
             c.number,
             output,
         ),
-        _ => exports::bytes::limdroven_bone_interpolation(
+        _ => exports::interpolation::limdroven_bone_interpolation(
             section,
             start,
             c.include_index,
@@ -71,11 +71,11 @@ fn by_record(c: Check, section: &[u8], start: usize, output: &mut [u8]) -> usize
 fn answer(c: Check, section: &[u8], start: usize, output: &mut [u8]) -> usize {
     let call = c.call;
     match call {
-        19 => exports::bytes::limdroven_name(section, start, output),
-        20 => exports::bytes::limdroven_english_name(section, start, output),
-        21 => exports::bytes::limdroven_path(section, start, output),
-        22 => exports::bytes::limdroven_bone_name(section, start, c.number, output),
-        23 => exports::bytes::limdroven_morph_name(section, start, c.number, output),
+        19 => exports::texts::limdroven_name(section, start, output),
+        20 => exports::texts::limdroven_english_name(section, start, output),
+        21 => exports::texts::limdroven_path(section, start, output),
+        22 => exports::texts::limdroven_bone_name(section, start, c.number, output),
+        23 => exports::texts::limdroven_morph_name(section, start, c.number, output),
         _ => by_record(c, section, start, output),
     }
 }

@@ -53,14 +53,14 @@ fn by_record(c: Check, section: &[u8], start: usize, values: &mut [u64]) -> u32 
             c.entry,
             values,
         ),
-        17 => exports::camera::limdroven_camera_keyframe(
+        17 => exports::track_keyframes::limdroven_camera_keyframe(
             section,
             start,
             c.include_index,
             c.number,
             values,
         ),
-        _ => exports::light::limdroven_light_keyframe(
+        _ => exports::track_keyframes::limdroven_light_keyframe(
             section,
             start,
             c.include_index,

@@ -34,9 +34,10 @@ module _ (s₁ : List ℕ) (m₁ : Model) (s₂ : List ℕ) (m₂ : Model) (ofBo
   unfolding clipRefusal
   exactly =
       let b = accepted-exactly (bones s₁ m₁) (bones s₂ m₂) ofBones bone boneTest (c₁ .bones) in
-      let m = accepted-exactly (morphs s₁ m₁) (morphs s₂ m₂) ofMorphs morph morphTest (c₁ .morphs) in
-      (λ e. let parts = or-none (buildRefusal bone boneTest (bones s₂ m₂)) (buildRefusal morph morphTest (morphs s₂ m₂)) e in (b .0 (parts .0), m .0 (parts .1)),
-       λ idle. none-or _ _ (b .1 (idle .0)) (m .1 (idle .1)))
+      let m = accepted-exactly (morphs s₁ m₁) (morphs s₂ m₂) ofMorphs morph morphTest (c₁ .morphs) in (
+        λ e. let parts = or-none (buildRefusal bone boneTest (bones s₂ m₂)) (buildRefusal morph morphTest (morphs s₂ m₂)) e in (b .0 (parts .0), m .0 (parts .1)),
+        λ idle. none-or _ _ (b .1 (idle .0)) (m .1 (idle .1)),
+      )
 
   same-strips : (width : ℕ) → SoundClip s₂ m₂ → stripOf width s₁ m₁ ≡ stripOf width s₂ m₂
   unfolding stripOf
@@ -49,13 +50,13 @@ pub matched-sections : (limits : Limits) (width : ℕ) → MatchedSections limit
 matched-sections limits width =
     record {
       accepted = λ x y rx ry lx ly ofBones ofMorphs ax.
-        let c = sound-clip (x .section) (rx .model) (tells limits width x rx ax .passes) in
-        let e = exactly (x .section) (rx .model) (y .section) (ry .model) ofBones ofMorphs c in
-        (λ ay. e .0 (tells limits width y ry ay .passes), λ idle. accepts limits width y ry ly (e .1 idle));
+          let c = sound-clip (x .section) (rx .model) (tells limits width x rx ax .passes) in
+          let e = exactly (x .section) (rx .model) (y .section) (ry .model) ofBones ofMorphs c in
+          (λ ay. e .0 (tells limits width y ry ay .passes), λ idle. accepts limits width y ry ly (e .1 idle));
       equal = λ x y rx ry ofBones ofMorphs ax ay.
-        let cx = sound-clip (x .section) (rx .model) (tells limits width x rx ax .passes) in
-        let cy = sound-clip (y .section) (ry .model) (tells limits width y ry ay .passes) in
-        strip-out limits width x rx ax ∙ same-strips (x .section) (rx .model) (y .section) (ry .model) ofBones ofMorphs cx width cy ∙ sym (strip-out limits width y ry ay);
+          let cx = sound-clip (x .section) (rx .model) (tells limits width x rx ax .passes) in
+          let cy = sound-clip (y .section) (ry .model) (tells limits width y ry ay .passes) in
+          strip-out limits width x rx ax ∙ same-strips (x .section) (rx .model) (y .section) (ry .model) ofBones ofMorphs cx width cy ∙ sym (strip-out limits width y ry ay);
     }
 
 -- The tracks of an accepted clip can be written.
@@ -103,11 +104,11 @@ module _ (limits : Limits) (width : ℕ) (wide : Wide limits width) (s₁ : List
       let nb : bones s₁ m₁ .tracks ≡ bones s₂ m₂ .tracks = first .0 in
       let nm : morphs s₁ m₁ .tracks ≡ morphs s₂ m₂ .tracks = second .0 in
       let third = tracks-are width boneGroups boneFields (keys bone (bones s₁ m₁)) (keys bone (bones s₂ m₂)) (bones s₁ m₁ .tracks) 0 (morphBytes s₁ m₁ (morphs s₁ m₁ .tracks) ++ []) (morphBytes s₂ m₂ (morphs s₂ m₂ .tracks) ++ [])
-          (λ t low high. bone-writable limits width wide s₁ m₁ b₁ c₁ t (omega arith)) (λ t low high. bone-writable limits width wide s₂ m₂ b₂ c₂ t (omega (arith, nb)))
-          (subst (λ n. boneBytes s₁ m₁ (bones s₁ m₁ .tracks) ++ (morphBytes s₁ m₁ (morphs s₁ m₁ .tracks) ++ []) ≡ boneBytes s₂ m₂ n ++ (morphBytes s₂ m₂ (morphs s₂ m₂ .tracks) ++ [])) (sym nb) (second .1)) in
+      (λ t low high. bone-writable limits width wide s₁ m₁ b₁ c₁ t (omega arith)) (λ t low high. bone-writable limits width wide s₂ m₂ b₂ c₂ t (omega (arith, nb)))
+      (subst (λ n. boneBytes s₁ m₁ (bones s₁ m₁ .tracks) ++ (morphBytes s₁ m₁ (morphs s₁ m₁ .tracks) ++ []) ≡ boneBytes s₂ m₂ n ++ (morphBytes s₂ m₂ (morphs s₂ m₂ .tracks) ++ [])) (sym nb) (second .1)) in
       let fourth = tracks-are width morphGroups morphFields (keys morph (morphs s₁ m₁)) (keys morph (morphs s₂ m₂)) (morphs s₁ m₁ .tracks) 0 [] []
-          (λ t low high. morph-writable limits width wide s₁ m₁ b₁ c₁ t (omega arith)) (λ t low high. morph-writable limits width wide s₂ m₂ b₂ c₂ t (omega (arith, nm)))
-          (subst (λ n. morphBytes s₁ m₁ (morphs s₁ m₁ .tracks) ++ [] ≡ morphBytes s₂ m₂ n ++ []) (sym nm) (third .1)) in
+      (λ t low high. morph-writable limits width wide s₁ m₁ b₁ c₁ t (omega arith)) (λ t low high. morph-writable limits width wide s₂ m₂ b₂ c₂ t (omega (arith, nm)))
+      (subst (λ n. morphBytes s₁ m₁ (morphs s₁ m₁ .tracks) ++ [] ≡ morphBytes s₂ m₂ n ++ []) (sym nm) (third .1)) in
       record {
         boneCount = nb;
         morphCount = nm;
@@ -129,14 +130,15 @@ accepted-sections limits width wide =
     record {
       within = accepted-within limits width;
       equal = λ x y rx ry ax ay.
-        let bx = blocks limits (x .section) (x .start) (rx .model) (rx .end) (rx .reads) in
-        let by = blocks limits (y .section) (y .start) (ry .model) (ry .end) (ry .reads) in
-        let cx = sound-clip (x .section) (rx .model) (tells limits width x rx ax .passes) in
-        let cy = sound-clip (y .section) (ry .model) (tells limits width y ry ay .passes) in
-        let ox = strip-out limits width x rx ax in
-        let oy = strip-out limits width y ry ay in
-        (λ e. same limits width wide (x .section) (rx .model) bx cx (y .section) (ry .model) by cy (sym ox ∙ e ∙ oy),
-         λ t. ox ∙ alike limits width wide (x .section) (rx .model) bx cx (y .section) (ry .model) by cy t ∙ sym oy);
+          let bx = blocks limits (x .section) (x .start) (rx .model) (rx .end) (rx .reads) in
+          let by = blocks limits (y .section) (y .start) (ry .model) (ry .end) (ry .reads) in
+          let cx = sound-clip (x .section) (rx .model) (tells limits width x rx ax .passes) in
+          let cy = sound-clip (y .section) (ry .model) (tells limits width y ry ay .passes) in
+          let ox = strip-out limits width x rx ax in
+          let oy = strip-out limits width y ry ay in (
+            λ e. same limits width wide (x .section) (rx .model) bx cx (y .section) (ry .model) by cy (sym ox ∙ e ∙ oy),
+            λ t. ox ∙ alike limits width wide (x .section) (rx .model) bx cx (y .section) (ry .model) by cy t ∙ sym oy,
+          );
     }
 
 -- For 01's edition.

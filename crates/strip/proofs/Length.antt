@@ -109,7 +109,7 @@ module _ {B : Type 0} (kind : Kind) (test : KeyTest B) (asked : B → Option ℕ
       let n = r .tracks in
       let bound = tracks-fit groups fieldsOf width narrow (keys kind r) keys-shaped n 0 in
       let each : total n (λ i. length (keys kind r (0 + i))) ≡ total n (λ i. suc (length (chainOf kind r i))) =
-          total-cong n (λ i. length (keys kind r (0 + i))) (λ i. suc (length (chainOf kind r i))) (λ i lt. ap (λ k. length (keys kind r k)) (omega arith) ∙ keys-many i) in
+      total-cong n (λ i. length (keys kind r (0 + i))) (λ i. suc (length (chainOf kind r i))) (λ i lt. ap (λ k. length (keys kind r k)) (omega arith) ∙ keys-many i) in
       let sum = total-suc n (λ i. length (chainOf kind r i)) in
       let whole = reached-and-loose kind test r s in
       let most : total n (λ i. length (keys kind r (0 + i))) ≤ n + r .additional = omega (arith, each, sum, whole) in

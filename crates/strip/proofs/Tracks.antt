@@ -47,8 +47,10 @@ module _ {B : Type 0} (width : ℕ) (groups : List Group) (fieldsOf : B → List
     unfolding tracksBytes
     same-tracks zero t wf wh like = refl
     same-tracks (suc n) t wf wh like =
-        rw (same-track (f t) (h t) (wf t (omega arith) (omega arith)) (wh t (omega arith) (omega arith)) (like t (omega arith) (omega arith)),
-            same-tracks n (suc t) (λ i low high. wf i (omega arith) (omega arith)) (λ i low high. wh i (omega arith) (omega arith)) (λ i low high. like i (omega arith) (omega arith)))
+        rw (
+          same-track (f t) (h t) (wf t (omega arith) (omega arith)) (wh t (omega arith) (omega arith)) (like t (omega arith) (omega arith)),
+          same-tracks n (suc t) (λ i low high. wf i (omega arith) (omega arith)) (λ i low high. wh i (omega arith) (omega arith)) (λ i low high. like i (omega arith) (omega arith)),
+        )
 
     -- Equal keys have equal bytes.
     pub equal-tracks : (n t : ℕ) → ((i : ℕ) → t ≤ i → i < t + n → f i ≡ h i) → tracksBytes width groups fieldsOf f t n ≡ tracksBytes width groups fieldsOf h t n

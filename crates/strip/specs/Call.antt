@@ -47,11 +47,11 @@ module _ (first second output : List ℕ) where
     written need strip =
         cond (ltb (length output) (length strip)) (zeroed need (refusal 18 (pos (length strip) ∷ [])))
         (record {
-           answer = answered (record { length = length strip; reached = reachedRecords s m; loose = looseRecords s m });
-           first = over (firstWork s m) first;
-           second = over (secondWork s m) second;
-           output = over strip output;
-         })
+          answer = answered (record { length = length strip; reached = reachedRecords s m; loose = looseRecords s m });
+          first = over (firstWork s m) first;
+          second = over (secondWork s m) second;
+          output = over strip output;
+        })
 
     abbrev pub built : ℕ → Option Refusal → Outcome
     built need (some why) = zeroed need why

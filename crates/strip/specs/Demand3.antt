@@ -15,18 +15,18 @@ use Rattle.strip.specs.Runs.{Lent, Within, Accepted, stripOut, LongEnoug
 -- the strips are equal byte for byte."
 pub record MatchedSections (limits : Limits) (width : ℕ) : Type 0 where
   pub accepted :
-    (x y : Lent) (readX : Within limits width x) (readY : Within limits width y)
-    → LongEnough width x (readX .model) → LongEnough width y (readY .model)
-    → (ofBones : Matched (bones (x .section) (readX .model)) (bones (y .section) (readY .model)))
-    → (ofMorphs : Matched (morphs (x .section) (readX .model)) (morphs (y .section) (readY .model)))
-    → Accepted limits width x
-    → Accepted limits width y ↔ (UnpairedIdle ofBones × UnpairedIdle ofMorphs)
+      (x y : Lent) (readX : Within limits width x) (readY : Within limits width y)
+      → LongEnough width x (readX .model) → LongEnough width y (readY .model)
+      → (ofBones : Matched (bones (x .section) (readX .model)) (bones (y .section) (readY .model)))
+      → (ofMorphs : Matched (morphs (x .section) (readX .model)) (morphs (y .section) (readY .model)))
+      → Accepted limits width x
+      → Accepted limits width y ↔ (UnpairedIdle ofBones × UnpairedIdle ofMorphs)
   pub equal :
-    (x y : Lent) (readX : Within limits width x) (readY : Within limits width y)
-    → Matched (bones (x .section) (readX .model)) (bones (y .section) (readY .model))
-    → Matched (morphs (x .section) (readX .model)) (morphs (y .section) (readY .model))
-    → (acceptedX : Accepted limits width x) (acceptedY : Accepted limits width y)
-    → stripOut limits width x acceptedX ≡ stripOut limits width y acceptedY
+      (x y : Lent) (readX : Within limits width x) (readY : Within limits width y)
+      → Matched (bones (x .section) (readX .model)) (bones (y .section) (readY .model))
+      → Matched (morphs (x .section) (readX .model)) (morphs (y .section) (readY .model))
+      → (acceptedX : Accepted limits width x) (acceptedY : Accepted limits width y)
+      → stripOut limits width x acceptedX ≡ stripOut limits width y acceptedY
 
 -- "Any two accepted sections, matched like this or not, have equal strips exactly when their bone and morph counts are equal and each track
 -- has as many keys in both, those in the same place alike by 01."
@@ -34,7 +34,7 @@ pub record AcceptedSections (limits : Limits) (width : ℕ) : Type 0 where
   -- An accepted section was read within the limits.
   pub within : (x : Lent) → Accepted limits width x → Within limits width x
   pub equal :
-    (x y : Lent) (readX : Within limits width x) (readY : Within limits width y)
-    → (acceptedX : Accepted limits width x) (acceptedY : Accepted limits width y)
-    → (stripOut limits width x acceptedX ≡ stripOut limits width y acceptedY)
+      (x y : Lent) (readX : Within limits width x) (readY : Within limits width y)
+      → (acceptedX : Accepted limits width x) (acceptedY : Accepted limits width y)
+      → (stripOut limits width x acceptedX ≡ stripOut limits width y acceptedY)
       ↔ SameTracks (x .section) (readX .model) (y .section) (readY .model)

@@ -1,0 +1,4 @@
+pub mod Times
+pub mod Swaps
+pub mod Heaps
+pub mod Numbers

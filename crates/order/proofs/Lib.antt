@@ -2,3 +2,4 @@ pub mod Times
 pub mod Swaps
 pub mod Heaps
 pub mod Numbers
+pub mod Sinks

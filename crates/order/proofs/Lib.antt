@@ -3,3 +3,5 @@ pub mod Swaps
 pub mod Heaps
 pub mod Numbers
 pub mod Sinks
+pub mod Heapsort
+pub mod Between

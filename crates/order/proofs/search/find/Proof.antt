@@ -1,70 +1,70 @@
+-- `find` meets its contract: the number, if it is there, stands from `low` on and before `high`. Assumes nothing.
+use Prim.Native.Nat.{_-_}
+use native.Mathlib.Omega.{arith}
+use Rattle.order.proofs.Between.{Bracket, bracket-start, bracket-up, bracket-down, bracket-found, bracket-absent}
 use Rattle.order.proofs.search.find.Statement.{statement}
 use Rattle.order.proofs.search.find.Tie as tie
-use Rattle.order.proofs.search.find.Reads as reads
-use Rattle.order.proofs.search.find.Lts as lts
-use Rattle.order.proofs.field.number_at.Reads as number-at-reads
 
 abbrev Inv-loop : tie.InvT-loop
-Inv-loop s f slots number low₀ high₀ low high = ?
+Inv-loop s f slots number low₀ high₀ low high = Bracket s f slots number low high
 
 abbrev μ-loop : tie.MeasureT-loop
-μ-loop s f slots number low₀ high₀ low high = ?
+μ-loop s f slots number low₀ high₀ low high = high - low
 
--- src/search.rt:16:5
 loop-holds : tie.Need-loop-holds Inv-loop μ-loop
-loop-holds c = ?
+loop-holds c = bracket-start _ _ _ _
 
--- src/search.rt:17:29
 sub-middle : tie.Need-sub-middle Inv-loop μ-loop
-sub-middle c = ?
+sub-middle c = omega arith
 
--- src/search.rt:17:22
 add-middle : tie.Need-add-middle Inv-loop μ-loop
-add-middle c = ?
+add-middle c = omega arith
 
--- src/search.rt:18:43
 mul-number-at : tie.Need-mul-number-at Inv-loop μ-loop
-mul-number-at c = ?
+mul-number-at c = omega arith
 
--- src/search.rt:18:43
 shared-slice-read-number-at : tie.Need-shared-slice-read-number-at Inv-loop μ-loop
-shared-slice-read-number-at c = ?
+shared-slice-read-number-at c = omega arith
 
--- src/search.rt:18:43
 cast-number-at : tie.Need-cast-number-at Inv-loop μ-loop
-cast-number-at c = ?
+cast-number-at c =
+    let head = c .before .before in
+    omega (arith, c .shared-slice-known3 .given _)
 
--- src/search.rt:18:13
 number-at-requires : tie.Need-number-at-requires Inv-loop μ-loop
-number-at-requires c κs = ?
+number-at-requires c κs =
+    let start = c .before .before .before .before .before in
+    (start .pre .1 .0 _ (omega arith), start .pre .0)
 
--- src/search.rt:20:13
 returns : tie.Need-returns Inv-loop μ-loop
-returns c = ?
+returns c =
+    let found = c .before in
+    let head = found .before .before .before in
+    bracket-found _ _ _ _ (head .before .before .before .pre .1 .1) _ _ (head .loop .inv) _ _ (omega arith) (omega arith) (found .number-at .ensures) (c .if1 .taken)
 
--- src/search.rt:23:19
 add-low : tie.Need-add-low Inv-loop μ-loop
-add-low c = ?
+add-low c = omega arith
 
--- src/search.rt:16:5
 loop-less : tie.Need-loop-less Inv-loop μ-loop
-loop-less c = ?
+loop-less c = omega arith
 
--- src/search.rt:16:5
 loop-again : tie.Need-loop-again Inv-loop μ-loop
-loop-again c = ?
+loop-again c =
+    let found = c .before .before in
+    let head = found .before .before .before in
+    bracket-up _ _ _ _ (head .before .before .before .pre .1 .1) _ _ (head .loop .inv) _ _ (omega arith) (omega arith) (found .number-at .ensures) (c .if2 .taken)
 
--- src/search.rt:16:5
 loop-less-2 : tie.Need-loop-less-2 Inv-loop μ-loop
-loop-less-2 c = ?
+loop-less-2 c = omega arith
 
--- src/search.rt:16:5
 loop-again-2 : tie.Need-loop-again-2 Inv-loop μ-loop
-loop-again-2 c = ?
+loop-again-2 c =
+    let found = c .before .before in
+    let head = found .before .before .before in
+    bracket-down _ _ _ _ (head .before .before .before .pre .1 .1) _ _ (head .loop .inv) _ _ (omega arith) (omega arith) (found .number-at .ensures) (c .before .if1 .left) (c .if2 .left)
 
--- src/search.rt:8:1
 returns-2 : tie.Need-returns-2 Inv-loop μ-loop
-returns-2 c = ?
+returns-2 c = bracket-absent _ _ _ _ _ _ (c .before .loop .inv) (c .loop-test .left)
 
 pub find-spec : {M : Type 1} → statement M
 find-spec =

@@ -5,3 +5,4 @@ pub mod Numbers
 pub mod Sinks
 pub mod Heapsort
 pub mod Between
+pub mod Laws

@@ -1,5 +1,5 @@
 -- `find` meets its contract: the number, if it is there, stands from `low` on and before `high`. Assumes nothing.
-use Prim.Native.Nat.{_-_}
+use Prim.Native.Nat.{_+_, _-_, _/_}
 use native.Mathlib.Omega.{arith}
 use Rattle.order.proofs.Between.{Bracket, bracket-start, bracket-up, bracket-down, bracket-found, bracket-absent}
 use Rattle.order.proofs.search.find.Statement.{statement}
@@ -28,8 +28,8 @@ shared-slice-read-number-at c = omega arith
 
 cast-number-at : tie.Need-cast-number-at Inv-loop μ-loop
 cast-number-at c =
-    let head = c .before .before in
-    omega (arith, c .shared-slice-known3 .given _)
+    let head = c .before .before .loop in
+    omega (arith, c .shared-slice-known3 .given (head .low + (head .high - head .low) / 2))
 
 number-at-requires : tie.Need-number-at-requires Inv-loop μ-loop
 number-at-requires c κs =

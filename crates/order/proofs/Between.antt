@@ -3,7 +3,7 @@ use Prim.Native.Nat.{ℕ, _+_, _≤_, _<_}
 use native.Mathlib.Decide.{decLt}
 use native.Mathlib.Omega.{arith}
 use mathlib.Core.List.{List}
-use mathlib.Core.Path.{_≡_, sym, ap, _∙_, subst}
+use mathlib.Core.Path.{_≡_, sym, _∙_, subst}
 use lib.ListN.{length, getD}
 use Rattle.order.specs.Field.{numberOf}
 use Rattle.order.specs.Find.{NumbersRise, Finds}

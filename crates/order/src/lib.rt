@@ -2,6 +2,6 @@
 // take about n log n steps at most, whatever the bytes are, and no memory of their own.
 pub mod answer;
 pub mod field;
-pub mod heap;
+mod heap;
 pub mod search;
 pub mod sorting;

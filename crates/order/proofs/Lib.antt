@@ -1,0 +1,11 @@
+pub mod Between
+pub mod Building
+pub mod Heaps
+pub mod Laws
+pub mod Numbers
+pub mod Risen
+pub mod Sinks
+pub mod Swaps
+pub mod Taking
+pub mod Times
+pub mod Unique

@@ -1,0 +1,4 @@
+pub mod Field
+pub mod Sorted
+pub mod Heap
+pub mod Find

@@ -1,3 +1,4 @@
 pub mod Bodies
 pub mod Asking
 pub mod Groups
+pub mod Placing

@@ -84,7 +84,7 @@ pub fn morph_plain(s: &[u8], at: usize) -> bool
     pose::weight_at(s, at) == 0.0
 }
 
-fn unless(plain: bool, n: u8) -> u8
+pub fn unless(plain: bool, n: u8) -> u8
     ensures { λ r. ⌜ r ≡ cond plain 0 n ⌝ }
 {
     if plain { 0 } else { n }

@@ -2,3 +2,4 @@ pub mod Bodies
 pub mod Asking
 pub mod Groups
 pub mod Placing
+pub mod Lengths

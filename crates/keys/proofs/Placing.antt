@@ -9,8 +9,11 @@ use mathlib.Core.Path.{_≡_, refl, sym, ap, _∙_, subst}
 use lib.ListN.{length, getD, take, drop, set, length-append, length-drop, length-set, take-append-drop}
 use lib.Seq.{length-take-le, take-at, drop-at, drop-append-add, drop-drop, sets, sets-eq, set-split}
 use Rattle.clip.specs.Section.{bytesAt}
-use Rattle.keys.specs.Placed.{placed, Room, Wrote}
+use Rattle.strip.specs.Keys.{littleEndian}
+use Rattle.strip.proofs.Bytes.{length-littleEndian}
+use Rattle.keys.specs.Placed.{placed, Room, Wrote, headBytes}
 use Rattle.keys.proofs.Bodies.{length-bytesAt}
+use Rattle.keys.proofs.Groups.{four}
 
 pub length-placed : (place : ℕ) (bytes old : List ℕ) → place + length bytes ≤ length old → length (placed place bytes old) ≡ length old
 unfolding placed
@@ -111,6 +114,25 @@ module _ (place : ℕ) (xs ys old : List ℕ) (room : Room place (xs ++ ys) old)
           leaves = back .leaves ∙ rw (front .ends, front .leaves) (placed-then place xs ys old (omega arith));
         }
 
+-- Three parts.
+module _ (place : ℕ) (xs ys zs old : List ℕ) (room : Room place (xs ++ ys ++ zs) old) where
+  abbrev both : Room place (xs ++ ys) old
+  both = room-front place (xs ++ ys) zs old room
+
+  pub room-first : Room place xs old
+  room-first = room-front place xs ys old both
+
+  module _ (mid : ℕ) (first : List ℕ) (front : Wrote place xs old mid first) where
+    pub room-second : Room mid ys first
+    room-second = room-back place xs ys old both mid first front
+
+    module _ (next : ℕ) (second : List ℕ) (middle : Wrote mid ys first next second) where
+      pub room-third : Room next zs second
+      room-third = room-back place (xs ++ ys) zs old room next second (wrote-then place xs ys old both mid first front next second middle)
+
+      pub wrote-three : (end : ℕ) (new : List ℕ) → Wrote next zs second end new → Wrote place (xs ++ ys ++ zs) old end new
+      wrote-three = wrote-then place (xs ++ ys) zs old room next second (wrote-then place xs ys old both mid first front next second middle)
+
 pub wrote-none : (place : ℕ) (old : List ℕ) → Wrote place [] old place old
 wrote-none place old = record { ends = omega arith; leaves = sym (placed-none place old) }
 
@@ -124,3 +146,26 @@ module _ (plain : Bool) (place : ℕ) (field old : List ℕ) where
 
   pub kept : (end : ℕ) (new : List ℕ) → plain ≡ false → Wrote place field old end new → Wrote place (cond plain [] field) old end new
   kept end new e w = rw e w
+
+-- The stores of a curve.
+pub curve-stored : (xs old : List ℕ) (place : ℕ) → length xs ≡ 4 → Room place xs old → Wrote place xs old (place + 4) (set (set (set (set old place (getD xs 0 0)) (place + 1) (getD xs 1 0)) (place + 2) (getD xs 2 0)) (place + 3) (getD xs 3 0))
+curve-stored xs old place l room =
+    record {
+      ends = omega arith;
+      leaves = stored4 old place (getD xs 0 0) (getD xs 1 0) (getD xs 2 0) (getD xs 3 0) (omega arith) ∙ ap (λ (bs : List ℕ). placed place bs old) (four xs l);
+    }
+
+-- A frame, and the map byte stored behind it.
+pub head-wrote : (old : List ℕ) (place frame map : ℕ) (mid : List ℕ) → Room place (headBytes frame map) old → mid ≡ placed place (littleEndian 4 frame) old → Wrote place (headBytes frame map) old (place + 5) (set mid (place + 4) map)
+head-wrote old place frame map mid room e =
+    let four = length-littleEndian 4 frame in
+    let front : Wrote place (littleEndian 4 frame) old (place + 4) mid = record { ends = omega (arith, four); leaves = e } in
+    let fits = room-back place (littleEndian 4 frame) (map ∷ []) old room (place + 4) mid front in
+    wrote-then place (littleEndian 4 frame) (map ∷ []) old room (place + 4) mid front (place + 5) (set mid (place + 4) map)
+    (record { ends = omega arith; leaves = stored (map ∷ []) mid (place + 4) fits })
+
+pub head-room : (old : List ℕ) (place frame map : ℕ) → Room place (headBytes frame map) old → place + 5 ≤ length old
+head-room old place frame map room =
+    let four = length-littleEndian 4 frame in
+    let sum = length-append (littleEndian 4 frame) (map ∷ []) in
+    omega (arith, four, sum)

@@ -1,12 +1,11 @@
 -- Laws of what is asked of a key. Assumes nothing.
 use Prim.Native.Nat.{ℕ}
-use mathlib.Core.Bool.{Bool, true, false, not, _&&_}
+use mathlib.Core.Bool.{Bool, true, false}
 use mathlib.Core.List.{List}
 use mathlib.Core.Logic.{_⊎_, inl, inr}
 use mathlib.Core.Option.{Option, none, some}
 use mathlib.Core.Path.{_≡_, refl, sym, ap, _∙_}
 use lib.Ieee.{Float, nan, inf, fin, lt, neg, div, ofBits, binary32}
-use Rattle.clip.specs.First.{given, _or_}
 use Rattle.clip.specs.Keys.{finite, translationFails, orientationFails, poseAsked, weightAsked, floatAt}
 use Rattle.records.specs.declared.pose.Pose.{Pose}
 use Rattle.keys.specs.Answers.{askedRead, morphKeyRead, orRefused, FrameAndWeight, morphKey}

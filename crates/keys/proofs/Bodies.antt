@@ -11,7 +11,6 @@ use Rattle.layout.specs.Walk.{u32At, u32}
 use Rattle.layout.proofs.Steps.{whole}
 use Rattle.binary.specs.Answers.{u32Read}
 use Rattle.binary.specs.declared.numbers.ReadU32.{ReadU32}
-use Rattle.records.specs.declared.pose.PoseBits.{PoseBits}
 use Rattle.records.specs.Pose.{float, poseOf}
 use Rattle.clip.specs.Keys.{posed, floatAt}
 use Rattle.clip.specs.Section.{bytesAt, boneBody, morphBody}

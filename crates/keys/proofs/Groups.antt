@@ -1,12 +1,12 @@
 -- The groups of a key's fields, made of what was read: floats one by one, and curves one by one. Assumes nothing.
-use Prim.Native.Nat.{ℕ, zero, suc, _+_, _*_, _≤_, min}
+use Prim.Native.Nat.{ℕ, _+_, _*_, _≤_}
 use native.Mathlib.Nat.{add-assoc, add-zero}
 use native.Mathlib.Omega.{arith}
 use mathlib.Core.Bool.{Bool, true, false, _&&_, cond}
 use mathlib.Core.List.{List, [], _∷_, _++_, map}
 use mathlib.Core.Path.{_≡_, refl, sym, ap, _∙_}
 use lib.Dec.{eqb}
-use lib.Ieee.{Float, eq}
+use lib.Ieee.{eq}
 use lib.ListN.{length, getD, take, drop}
 use Rattle.records.specs.Curves.{curveAt, curvesAt}
 use Rattle.records.specs.Pose.{float}
@@ -17,7 +17,6 @@ use Rattle.clip.specs.Section.{bytesAt, boneBody, morphBody}
 use Rattle.strip.specs.Plain.{one, plainFloat, plainFloats, plainBytes, plainCurve, plainCurves, clamped, boneGroups, boneFields, morphGroups, morphFields}
 use Rattle.strip.specs.Keys.{mapByte}
 use Rattle.keys.specs.Plain.{plainIn, bonePlain, standing}
-use Rattle.keys.specs.declared.plain.BonePlain.{BonePlain}
 
 all3 : (a b c : Bool) → a && b && c ≡ a && (b && (c && true))
 all3 false b c = refl

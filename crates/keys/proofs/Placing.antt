@@ -1,5 +1,5 @@
 -- Laws of placing bytes in an output. Assumes nothing.
-use Prim.Native.Nat.{ℕ, zero, suc, _+_, _≤_, _<_}
+use Prim.Native.Nat.{ℕ, suc, _+_, _≤_, _<_}
 use native.Mathlib.Nat.{add-assoc, add-zero}
 use native.Mathlib.Numerals.{add-one}
 use native.Mathlib.Omega.{arith}
@@ -7,7 +7,7 @@ use mathlib.Core.Bool.{Bool, true, false, cond}
 use mathlib.Core.List.{List, [], _∷_, _++_, append-assoc, append-nil}
 use mathlib.Core.Path.{_≡_, refl, sym, ap, _∙_, subst}
 use lib.ListN.{length, getD, take, drop, set, length-append, length-drop, length-set, take-append-drop}
-use lib.Seq.{length-take-le, take-at, drop-at, drop-append-add, drop-drop, sets, sets-eq, set-split}
+use lib.Seq.{length-take-le, take-at, drop-append-add, drop-drop, sets, sets-eq}
 use Rattle.clip.specs.Section.{bytesAt}
 use Rattle.strip.specs.Keys.{littleEndian}
 use Rattle.strip.proofs.Bytes.{length-littleEndian}
@@ -37,10 +37,10 @@ placed-then place xs ys old fits =
     let long : length front ≡ place + length xs = length-append (take place old) xs ∙ ap (λ (n : ℕ). n + length xs) (length-take-le place old fits) in
     let first : take (place + length xs) (front ++ rest) ≡ front = take-at front rest (place + length xs) long in
     let last : drop (place + length xs + length ys) (front ++ rest) ≡ drop (place + length (xs ++ ys)) old =
-        ap (λ (n : ℕ). drop (n + length ys) (front ++ rest)) (sym long)
-        ∙ drop-append-add front rest (length ys)
-        ∙ drop-drop (length ys) (place + length xs) old
-        ∙ ap (λ (n : ℕ). drop n old) (add-assoc place (length xs) (length ys) ∙ ap (λ (n : ℕ). place + n) (sym (length-append xs ys)))
+    ap (λ (n : ℕ). drop (n + length ys) (front ++ rest)) (sym long)
+    ∙ drop-append-add front rest (length ys)
+    ∙ drop-drop (length ys) (place + length xs) old
+    ∙ ap (λ (n : ℕ). drop n old) (add-assoc place (length xs) (length ys) ∙ ap (λ (n : ℕ). place + n) (sym (length-append xs ys)))
     in
     rw (first, last, append-assoc (take place old) xs ys)
 

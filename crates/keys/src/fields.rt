@@ -3,7 +3,7 @@ ghost use mathlib.Core.Path.{_≡_};
 ghost use mathlib.Core.Bool.{cond};
 ghost use mathlib.Core.List.{[]};
 ghost use Prim.Native.Nat.{_+_, _≤_};
-ghost use lib.ListN.{length, getD};
+ghost use lib.ListN.{length};
 ghost use Rattle.clip.specs.Section.{bytesAt};
 ghost use Rattle.keys.specs.Placed.{placed, Room, Wrote, poseBytes, threeCurves, curveBytes};
 use crate::plain::BonePlain;
@@ -39,13 +39,7 @@ pub fn copy_unless(
     place + n
 }
 
-pub fn write_pose(
-    plain: BonePlain,
-    s: &[u8],
-    at: usize,
-    output: &mut [u8],
-    place: usize,
-) -> usize
+pub fn write_pose(plain: BonePlain, s: &[u8], at: usize, output: &mut [u8], place: usize) -> usize
     requires { ⌜ (at + 44 ≤ length (now s)) × Room place (poseBytes plain (now s) at) (now output) ⌝ }
     ensures { λ r. ⌜ Wrote place (poseBytes plain (now (s .entry)) at) (now (output .entry)) r (now (output .exit)) ⌝ }
 {

@@ -92,11 +92,7 @@ pub fn finite(x: f32) -> bool
     ensures { λ r. ⌜ r ≡ finite x ⌝ }
 {
     let infinity: f32 = 1.0 / 0.0;
-    if x < infinity {
-        -infinity < x
-    } else {
-        false
-    }
+    if x < infinity { -infinity < x } else { false }
 }
 
 fn finite3(x: f32, y: f32, z: f32) -> bool

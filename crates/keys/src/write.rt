@@ -1,7 +1,6 @@
 // One key's bytes in a strip (document 01, "The strip"): a bone key is frame u32 and a map byte, then only the fields whose bit
 // stands; a morph key likewise.
 ghost use mathlib.Core.Path.{_≡_};
-ghost use mathlib.Core.List.{[], _∷_};
 ghost use Prim.Native.Nat.{_+_, _%_, _≤_};
 ghost use lib.ListN.{length};
 ghost use Rattle.strip.specs.Keys.{littleEndian};
@@ -62,13 +61,7 @@ pub fn morph_key_length(s: &[u8], at: usize) -> usize
     5 + fields as usize
 }
 
-pub fn write_bone_key(
-    s: &[u8],
-    at: usize,
-    frame: u32,
-    output: &mut [u8],
-    place: usize,
-) -> usize
+pub fn write_bone_key(s: &[u8], at: usize, frame: u32, output: &mut [u8], place: usize) -> usize
     requires { ⌜ (at + 44 ≤ length (now s)) × Room place (boneKeyBytes (now s) at frame) (now output) ⌝ }
     ensures { λ r. ⌜ Wrote place (boneKeyBytes (now (s .entry)) at frame) (now (output .entry)) r (now (output .exit)) ⌝ }
 {
@@ -80,13 +73,7 @@ pub fn write_bone_key(
     fields::write_curves(plain, curves, output, next)
 }
 
-pub fn write_morph_key(
-    s: &[u8],
-    at: usize,
-    frame: u32,
-    output: &mut [u8],
-    place: usize,
-) -> usize
+pub fn write_morph_key(s: &[u8], at: usize, frame: u32, output: &mut [u8], place: usize) -> usize
     requires { ⌜ (at + 4 ≤ length (now s)) × Room place (morphKeyBytes (now s) at frame) (now output) ⌝ }
     ensures { λ r. ⌜ Wrote place (morphKeyBytes (now (s .entry)) at frame) (now (output .entry)) r (now (output .exit)) ⌝ }
 {

@@ -31,7 +31,7 @@ clamped-requires-4 : tie.Need-clamped-requires-4
 clamped-requires-4 c κs = search needs
 
 returns : tie.Need-returns
-returns c = 
+returns c =
     rw (c .before .before .before .before .before .before .clamped .ensures, c .before .before .before .before .clamped2 .ensures, c .before .before .clamped3 .ensures, c .clamped4 .ensures, c .before .before .before .before .before .before .before .before .curves-at .ensures)
 
 pub bone-curves-spec : {M : Type 1} → statement M

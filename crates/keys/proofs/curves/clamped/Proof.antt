@@ -32,7 +32,7 @@ clamped-byte-requires-4 : tie.Need-clamped-byte-requires-4
 clamped-byte-requires-4 c κs = search needs
 
 returns : tie.Need-returns
-returns c = 
+returns c =
     let start = c .before .before .before .before in
     let len : length (start .args .t1) ≡ 4 = start .good .0 .1 .0 .1 in
     rw (c .before .before .before .clamped-byte .ensures, c .before .before .clamped-byte2 .ensures, c .before .clamped-byte3 .ensures, c .clamped-byte4 .ensures) (ap clamped (four (start .args .t1) len))

@@ -26,7 +26,7 @@ plain-curve-requires : tie.Need-plain-curve-requires
 plain-curve-requires c κs = search needs
 
 returns : tie.Need-returns
-returns c = 
+returns c =
     bone-plain-is _ _ _ _ _ _ _ _
     (c .before .before .before .before .before .before .pose-at .ensures)
     (c .before .before .before .before .before .bone-curves .ensures)

@@ -1,7 +1,5 @@
 -- `plain_curve` meets its contract. Assumes nothing.
 use Rattle.keys.proofs.Groups.{plain-curve-is}
-use lib.ListN.{length}
-use mathlib.Core.Path.{_≡_}
 use borrow.Author.Needs.{needs}
 use Rattle.keys.proofs.plain.plain_curve.Statement.{statement}
 use Rattle.keys.proofs.plain.plain_curve.Tie as tie

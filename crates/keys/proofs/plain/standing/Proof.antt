@@ -18,7 +18,7 @@ unless-requires-4 : tie.Need-unless-requires-4
 unless-requires-4 c κs = search needs
 
 add-result : tie.Need-add-result
-add-result c = 
+add-result c =
     let start = c .before .before .before .before in
     omega (
       arith,
@@ -29,7 +29,7 @@ add-result c =
     )
 
 add-result-2 : tie.Need-add-result-2
-add-result-2 c = 
+add-result-2 c =
     let start = c .before .before .before .before in
     omega (
       arith,
@@ -40,7 +40,7 @@ add-result-2 c =
     )
 
 add-result-3 : tie.Need-add-result-3
-add-result-3 c = 
+add-result-3 c =
     let start = c .before .before .before .before in
     omega (
       arith,

@@ -1,37 +1,33 @@
+-- `write_count` meets its contract: the lower byte stands first. Assumes nothing.
+use Rattle.keys.proofs.Placing.{stored2}
+use Rattle.strip.specs.Keys.{littleEndian}
+use lib.ListN.{length-set}
+use native.Mathlib.Omega.{arith}
 use borrow.Author.Needs.{needs}
 use Rattle.keys.proofs.write.write_count.Statement.{statement}
 use Rattle.keys.proofs.write.write_count.Tie as tie
-use Rattle.keys.proofs.write.write_count.Reads as reads
-use Rattle.keys.proofs.write.write_count.Lts as lts
-use Rattle.keys.proofs.write.low.Reads as low-reads
 
--- src/write.rt:24:21
 low-requires : tie.Need-low-requires
 low-requires c κs = search needs
 
--- src/write.rt:24:5
 slice-write-output : tie.Need-slice-write-output
 slice-write-output c = search needs
 
--- src/write.rt:25:25
 low-requires-2 : tie.Need-low-requires-2
 low-requires-2 c κs = search needs
 
--- src/write.rt:25:12
 add-output : tie.Need-add-output
 add-output c = search needs
 
--- src/write.rt:25:5
 slice-write-output-2 : tie.Need-slice-write-output-2
-slice-write-output-2 c = ?
+slice-write-output-2 c = simp length-set (omega arith)
 
--- src/write.rt:20:1
 same-length : tie.Need-same-length
 same-length c = search needs
 
--- src/write.rt:20:1
 returns : tie.Need-returns
-returns c = ?
+unfolding littleEndian
+returns c = rw (c .before .low .ensures, c .low2 .ensures) (stored2 _ _ _ _ (omega arith))
 
 pub write-count-spec : {M : Type 1} → statement M
 write-count-spec =

@@ -1,33 +1,28 @@
+-- `write_head` meets its contract: the map byte is stored behind the frame. Assumes nothing.
+use Rattle.keys.proofs.Placing.{head-room, head-wrote}
+use denote.Ref.{now}
+use native.Mathlib.Omega.{arith}
 use borrow.Author.Needs.{needs}
 use Rattle.keys.proofs.write.write_head.Statement.{statement}
 use Rattle.keys.proofs.write.write_head.Tie as tie
-use Rattle.keys.proofs.write.write_head.Reads as reads
-use Rattle.keys.proofs.write.write_head.Lts as lts
-use Rattle.keys.proofs.write.write_u32.Reads as write-u32-reads
 
--- src/write.rt:43:5
 write-u32-requires : tie.Need-write-u32-requires
-write-u32-requires c κs = ?
+write-u32-requires c κs = let fits = head-room (now (c .before .before .args .output)) (c .before .before .args .place) (c .before .before .args .frame) (c .before .before .args .map) (c .before .before .pre) in omega arith
 
--- src/write.rt:44:12
 add-output : tie.Need-add-output
 add-output c = search needs
 
--- src/write.rt:44:5
 slice-write-output : tie.Need-slice-write-output
-slice-write-output c = ?
+slice-write-output c = let start = c .before .before .before .before .before in let fits = head-room (now (start .args .output)) (start .args .place) (start .args .frame) (start .args .map) (start .pre) in let same = c .before .before .write-u32 .kept .0 in omega (arith, same)
 
--- src/write.rt:45:5
 add-result : tie.Need-add-result
 add-result c = search needs
 
--- src/write.rt:39:1
 same-length : tie.Need-same-length
 same-length c = search needs
 
--- src/write.rt:39:1
 returns : tie.Need-returns
-returns c = ?
+returns c = let start = c .before .before .before .before .before in head-wrote (now (start .args .output)) (start .args .place) (start .args .frame) (start .args .map) _ (start .pre) (c .before .before .write-u32 .ensures)
 
 pub write-head-spec : {M : Type 1} → statement M
 write-head-spec =

@@ -1,36 +1,51 @@
+-- `write_morph_key` meets its contract: the key is its head and its weight. Assumes nothing.
+use Rattle.keys.proofs.Lengths.{morph-parts}
+use Rattle.keys.proofs.Placing.{room-front, room-back, wrote-then}
+use Rattle.keys.specs.Placed.{Room, headBytes, morphKeyBytes}
+use Rattle.clip.specs.Section.{bytesAt}
+use denote.Ref.{now}
+use mathlib.Core.Path.{_≡_}
+use mathlib.Core.List.{List, [], _++_}
+use mathlib.Core.Bool.{cond}
+use Prim.Native.Nat.{ℕ}
 use borrow.Author.Needs.{needs}
 use Rattle.keys.proofs.write.write_morph_key.Statement.{statement}
 use Rattle.keys.proofs.write.write_morph_key.Tie as tie
-use Rattle.keys.proofs.write.write_morph_key.Reads as reads
-use Rattle.keys.proofs.write.write_morph_key.Lts as lts
-use Rattle.keys.proofs.fields.copy_unless.Reads as copy-unless-reads
-use Rattle.keys.proofs.plain.morph_plain.Reads as morph-plain-reads
-use Rattle.keys.proofs.plain.unless.Reads as unless-reads
-use Rattle.keys.proofs.write.write_head.Reads as write-head-reads
 
--- src/write.rt:93:9
+abbrev old : tie.After-unless → List ℕ
+old c = now (c .before .before .before .before .args .output)
+
+abbrev head : tie.After-unless → List ℕ
+head c = headBytes (c .before .before .before .before .args .frame) (c .unless .result)
+
+abbrev weight : tie.After-unless → List ℕ
+weight c = cond (c .before .morph-plain .result) [] (bytesAt (now (c .before .before .before .before .args .s)) (c .before .before .before .before .args .at) 4)
+
+parts : (c : tie.After-unless) → head c ++ weight c ≡ morphKeyBytes (now (c .before .before .before .before .args .s)) (c .before .before .before .before .args .at) (c .before .before .before .before .args .frame)
+parts c = morph-parts _ _ _ _ _ (c .before .morph-plain .ensures) (c .unless .ensures)
+
+room : (c : tie.After-unless) → Room (c .before .before .before .before .args .place) (head c ++ weight c) (old c)
+room c = rw (parts c) (c .before .before .before .before .pre .1)
+
 morph-plain-requires : tie.Need-morph-plain-requires
 morph-plain-requires c κs = search needs
 
--- src/write.rt:94:9
 unless-requires : tie.Need-unless-requires
 unless-requires c κs = search needs
 
--- src/write.rt:95:9
 write-head-requires : tie.Need-write-head-requires
-write-head-requires c κs = ?
+write-head-requires c κs = let a = c .before in room-front _ (head a) (weight a) (old a) (room a)
 
--- src/write.rt:96:5
 copy-unless-requires : tie.Need-copy-unless-requires
-copy-unless-requires c κs = ?
+copy-unless-requires c κs = let a = c .before .before .before .before .before in (c .before .before .before .before .before .before .before .before .before .pre .0, room-back _ (head a) (weight a) (old a) (room a) _ _ (c .before .before .before .write-head .ensures))
 
--- src/write.rt:83:1
 same-length : tie.Need-same-length
 same-length c = search needs
 
--- src/write.rt:83:1
 returns : tie.Need-returns
-returns c = ?
+returns c =
+    let a = c .before .before .before .before .before .before .before .before in
+    rw (← parts a) (wrote-then _ (head a) (weight a) (old a) (room a) _ _ (c .before .before .before .before .before .before .write-head .ensures) _ _ (c .before .before .copy-unless .ensures))
 
 pub write-morph-key-spec : {M : Type 1} → statement M
 write-morph-key-spec =

@@ -1,0 +1,5 @@
+pub mod Bodies
+pub mod Asking
+pub mod Groups
+pub mod Placing
+pub mod Lengths

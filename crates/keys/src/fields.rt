@@ -1,0 +1,105 @@
+// The fields of a key, written into an output at a place. Each call answers where they end.
+ghost use mathlib.Core.Path.{_≡_};
+ghost use mathlib.Core.Bool.{cond};
+ghost use mathlib.Core.List.{[]};
+ghost use Prim.Native.Nat.{_+_, _≤_};
+ghost use lib.ListN.{length};
+ghost use Rattle.clip.specs.Section.{bytesAt};
+ghost use Rattle.keys.specs.Placed.{placed, Room, Wrote, poseBytes, threeCurves, curveBytes};
+use crate::plain::BonePlain;
+
+// `n` bytes of the section.
+fn copy(s: &[u8], from: usize, n: usize, output: &mut [u8], place: usize)
+    requires { ⌜ (from + n ≤ length (now s)) × (place + n ≤ length (now output)) ⌝ }
+    ensures { λ _. ⌜ now (output .exit) ≡ placed place (bytesAt (now (s .entry)) from n) (now (output .entry)) ⌝ }
+{
+    let mut i: usize = 0;
+    while i < n {
+        output[place + i] = s[from + i];
+        i += 1;
+    }
+}
+
+// They are written unless their group is plain.
+pub fn copy_unless(
+    plain: bool,
+    s: &[u8],
+    from: usize,
+    n: usize,
+    output: &mut [u8],
+    place: usize,
+) -> usize
+    requires { ⌜ (from + n ≤ length (now s)) × Room place (cond plain [] (bytesAt (now s) from n)) (now output) ⌝ }
+    ensures { λ r. ⌜ Wrote place (cond plain [] (bytesAt (now (s .entry)) from n)) (now (output .entry)) r (now (output .exit)) ⌝ }
+{
+    if plain {
+        return place;
+    }
+    copy(s, from, n, output, place);
+    place + n
+}
+
+pub fn write_pose(plain: BonePlain, s: &[u8], at: usize, output: &mut [u8], place: usize) -> usize
+    requires { ⌜ (at + 44 ≤ length (now s)) × Room place (poseBytes plain (now s) at) (now output) ⌝ }
+    ensures { λ r. ⌜ Wrote place (poseBytes plain (now (s .entry)) at) (now (output .entry)) r (now (output .exit)) ⌝ }
+{
+    let next = copy_unless(plain.translation, s, at + 16, 12, output, place);
+    copy_unless(plain.orientation, s, at + 28, 16, output, next)
+}
+
+fn write_curve(curve: [u8; 4], output: &mut [u8], place: usize) -> usize
+    requires { ⌜ Room place curve (now output) ⌝ }
+    ensures { λ r. ⌜ Wrote place curve (now (output .entry)) r (now (output .exit)) ⌝ }
+{
+    output[place] = curve[0];
+    output[place + 1] = curve[1];
+    output[place + 2] = curve[2];
+    output[place + 3] = curve[3];
+    place + 4
+}
+
+fn write_three(curves: [[u8; 4]; 4], output: &mut [u8], place: usize) -> usize
+    requires { ⌜ Room place (threeCurves curves) (now output) ⌝ }
+    ensures { λ r. ⌜ Wrote place (threeCurves curves) (now (output .entry)) r (now (output .exit)) ⌝ }
+{
+    let x = curves[0];
+    let y = curves[1];
+    let z = curves[2];
+    let second = write_curve(x, output, place);
+    let third = write_curve(y, output, second);
+    write_curve(z, output, third)
+}
+
+fn three_unless(plain: bool, curves: [[u8; 4]; 4], output: &mut [u8], place: usize) -> usize
+    requires { ⌜ Room place (cond plain [] (threeCurves curves)) (now output) ⌝ }
+    ensures { λ r. ⌜ Wrote place (cond plain [] (threeCurves curves)) (now (output .entry)) r (now (output .exit)) ⌝ }
+{
+    if plain {
+        return place;
+    }
+    write_three(curves, output, place)
+}
+
+fn curve_unless(plain: bool, curve: [u8; 4], output: &mut [u8], place: usize) -> usize
+    requires { ⌜ Room place (cond plain [] curve) (now output) ⌝ }
+    ensures { λ r. ⌜ Wrote place (cond plain [] curve) (now (output .entry)) r (now (output .exit)) ⌝ }
+{
+    if plain {
+        return place;
+    }
+    write_curve(curve, output, place)
+}
+
+pub fn write_curves(
+    plain: BonePlain,
+    curves: [[u8; 4]; 4],
+    output: &mut [u8],
+    place: usize,
+) -> usize
+    requires { ⌜ Room place (curveBytes plain curves) (now output) ⌝ }
+    ensures { λ r. ⌜ Wrote place (curveBytes plain curves) (now (output .entry)) r (now (output .exit)) ⌝ }
+{
+    let rotation = curves[3];
+    let next = three_unless(plain.curves, curves, output, place);
+    curve_unless(plain.rotation, rotation, output, next)
+}

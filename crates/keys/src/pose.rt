@@ -1,0 +1,176 @@
+// What is asked of a key's body (document 01, "Build order"). A pose is a struct of seven f32 fields, passed by value from the
+// record reader to the finite and length checks (document 01, "Forms by place in the code").
+ghost use mathlib.Core.Path.{_≡_};
+ghost use Prim.Native.Nat.{_+_, _≤_};
+ghost use lib.ListN.{length};
+ghost use mathlib.Core.Bool.{_&&_};
+ghost use Rattle.layout.specs.Walk.{u32At};
+ghost use Rattle.clip.specs.Keys.{
+  finite,
+  squaredLength,
+  translationFails,
+  orientationFails,
+  poseAsked,
+  posed,
+  floatAt,
+  weightAsked,
+};
+ghost use Rattle.clip.specs.Section.{boneBody, morphBody};
+ghost use Rattle.keys.specs.Words.{words3, words4};
+ghost use Rattle.keys.specs.Answers.{askedRead, morphKeyRead, morphKey};
+use binary::groups::Bits3;
+use binary::groups::Bits4;
+use binary::numbers;
+use binary::numbers::ReadU32;
+use records::pose;
+use records::pose::Pose;
+use records::pose::PoseBits;
+
+// Nothing against the body, or the number of the refusal that it meets.
+pub enum Asked {
+    Fine,
+    Refused(u8),
+}
+
+// Document 01: a morph key is answered as its frame and weight, or as the refusal that it met.
+pub enum MorphKey {
+    Key(u32, f32),
+    Refused(u8),
+}
+
+fn word(s: &[u8], at: usize) -> u32
+    requires { ⌜ at + 4 ≤ length (now s) ⌝ }
+    ensures { λ r. ⌜ r ≡ u32At (now (s .entry)) at ⌝ }
+{
+    match numbers::read_u32_le(s, at) {
+        ReadU32::Value(bits, _) => bits,
+        ReadU32::Short(_) => 0,
+    }
+}
+
+fn three_words(s: &[u8], at: usize) -> Bits3
+    requires { ⌜ at + 12 ≤ length (now s) ⌝ }
+    ensures { λ r. ⌜ r ≡ words3 (now (s .entry)) at ⌝ }
+{
+    let x = word(s, at);
+    let y = word(s, at + 4);
+    let z = word(s, at + 8);
+    Bits3(x, y, z)
+}
+
+fn four_words(s: &[u8], at: usize) -> Bits4
+    requires { ⌜ at + 16 ≤ length (now s) ⌝ }
+    ensures { λ r. ⌜ r ≡ words4 (now (s .entry)) at ⌝ }
+{
+    let x = word(s, at);
+    let y = word(s, at + 4);
+    let z = word(s, at + 8);
+    let w = word(s, at + 12);
+    Bits4(x, y, z, w)
+}
+
+pub fn pose_at(s: &[u8], at: usize) -> Pose
+    requires { ⌜ at + 44 ≤ length (now s) ⌝ }
+    ensures { λ r. ⌜ r ≡ posed (boneBody (now (s .entry)) at) ⌝ }
+{
+    let translation = three_words(s, at + 16);
+    let orientation = four_words(s, at + 28);
+    pose::pose_of(PoseBits {
+        translation,
+        orientation,
+    })
+}
+
+pub fn weight_at(s: &[u8], at: usize) -> f32
+    requires { ⌜ at + 4 ≤ length (now s) ⌝ }
+    ensures { λ r. ⌜ r ≡ floatAt (morphBody (now (s .entry)) at) 0 ⌝ }
+{
+    numbers::float(word(s, at))
+}
+
+pub fn finite(x: f32) -> bool
+    ensures { λ r. ⌜ r ≡ finite x ⌝ }
+{
+    let infinity: f32 = 1.0 / 0.0;
+    if x < infinity { -infinity < x } else { false }
+}
+
+fn finite3(x: f32, y: f32, z: f32) -> bool
+    ensures { λ r. ⌜ r ≡ finite x && finite y && finite z ⌝ }
+{
+    finite(x) & finite(y) & finite(z)
+}
+
+fn squared_length(x: f32, y: f32, z: f32, w: f32) -> f32
+    ensures { λ r. ⌜ r ≡ squaredLength x y z w ⌝ }
+{
+    ((x * x + y * y) + z * z) + w * w
+}
+
+fn translation_fails(pose: Pose) -> bool
+    ensures { λ r. ⌜ r ≡ translationFails pose ⌝ }
+{
+    !finite3(pose.translation_x, pose.translation_y, pose.translation_z)
+}
+
+fn orientation_fails(pose: Pose) -> bool
+    ensures { λ r. ⌜ r ≡ orientationFails pose ⌝ }
+{
+    let x = pose.orientation_x;
+    let y = pose.orientation_y;
+    let z = pose.orientation_z;
+    let w = pose.orientation_w;
+    let all = finite3(x, y, z) & finite(w);
+    !all | (squared_length(x, y, z, w) <= 1.1920929e-7)
+}
+
+pub fn pose_asked(pose: Pose) -> Asked
+    ensures { λ r. ⌜ askedRead r ≡ poseAsked pose ⌝ }
+{
+    if translation_fails(pose) {
+        return Asked::Refused(12);
+    }
+    if orientation_fails(pose) {
+        return Asked::Refused(13);
+    }
+    Asked::Fine
+}
+
+pub fn weight_asked(weight: f32) -> Asked
+    ensures { λ r. ⌜ askedRead r ≡ weightAsked weight ⌝ }
+{
+    if finite(weight) {
+        Asked::Fine
+    } else {
+        Asked::Refused(14)
+    }
+}
+
+pub fn bone_asked(s: &[u8], at: usize) -> Asked
+    requires { ⌜ at + 44 ≤ length (now s) ⌝ }
+    ensures { λ r. ⌜ askedRead r ≡ poseAsked (posed (boneBody (now (s .entry)) at)) ⌝ }
+{
+    pose_asked(pose_at(s, at))
+}
+
+pub fn morph_key(s: &[u8], at: usize, frame: u32) -> MorphKey
+    requires { ⌜ at + 4 ≤ length (now s) ⌝ }
+    ensures { λ r. ⌜ morphKeyRead r ≡ morphKey (morphBody (now (s .entry)) at) frame ⌝ }
+{
+    let weight = weight_at(s, at);
+    match weight_asked(weight) {
+        Asked::Fine => MorphKey::Key(frame, weight),
+        Asked::Refused(number) => MorphKey::Refused(number),
+    }
+}
+
+// What is asked of a morph key does not turn on its frame.
+pub fn morph_asked(s: &[u8], at: usize) -> Asked
+    requires { ⌜ at + 4 ≤ length (now s) ⌝ }
+    ensures { λ r. ⌜ askedRead r ≡ weightAsked (floatAt (morphBody (now (s .entry)) at) 0) ⌝ }
+{
+    match morph_key(s, at, 0) {
+        MorphKey::Key(_, _) => Asked::Fine,
+        MorphKey::Refused(number) => Asked::Refused(number),
+    }
+}

@@ -11,5 +11,4 @@ pub mod Matched
 pub mod Facts
 pub mod Shared
 pub mod Clip
-pub mod Frames
 pub mod Bodies

@@ -1,0 +1,4 @@
+pub mod Places
+pub mod Going
+pub mod ByIndex
+pub mod Frames

@@ -1,0 +1,15 @@
+-- What a walk along a chain answers. Definitions only.
+use Prim.Native.Nat.{ℕ}
+use mathlib.Core.List.{List, [], _∷_}
+use lib.IntN.{pos}
+use lib.ListN.{take}
+use Rattle.layout.specs.Walk.{Answer, answered, declined}
+use Rattle.clip.specs.Fields.{Kind, refusalOf, signed}
+use Rattle.chains.specs.declared.walk.Walked.{Walked}
+
+-- The records of the chain stand at the front of the second work slice.
+abbrev pub walkedRead : Kind → ℕ → List ℕ → Walked → Answer (List ℕ)
+walkedRead kind track list (Walked.Ends n) = answered (take n list)
+walkedRead kind track list (Walked.Missing link) = declined (refusalOf kind 6 (pos track ∷ signed link ∷ []))
+walkedRead kind track list (Walked.Cycle link) = declined (refusalOf kind 7 (pos track ∷ signed link ∷ []))
+walkedRead kind track list (Walked.Wrong link found expected) = declined (refusalOf kind 8 (pos track ∷ signed link ∷ signed found ∷ signed expected ∷ []))

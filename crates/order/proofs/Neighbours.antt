@@ -16,10 +16,10 @@ module _ (s : List ℕ) (f : Field) (xs : List ℕ) where
   -- What `equals_before` told of the slot at i.
   module _ (i : ℕ) (told : Bool) (is : told ≡ eqb (numberAt s f xs (i - 1)) (numberAt s f xs i)) where
     pub behind-told : 0 < i → i < length xs → told ≡ true → Behind s f xs i
-    behind-told later inside yes = record { later = later; inside = inside; equal = eqb-true _ _ (sym is ∙ yes) }
+    behind-told later inside taken = record { later = later; inside = inside; equal = eqb-true _ _ (sym is ∙ taken) }
 
     pub not-behind : told ≡ false → Behind s f xs i → ⊥
-    not-behind no behind = eqb-false _ _ (sym is ∙ no) (behind .equal)
+    not-behind left behind = eqb-false _ _ (sym is ∙ left) (behind .equal)
 
   -- `LeastBehind` of the places before i.
   pub record Passed (n m i : ℕ) : Type 0 where

@@ -61,8 +61,9 @@ module _ (s : List ℕ) (f : Field) (within : Within s f) (before after : List �
       omega (arith, up, behind .equal)
 
   -- The given number is that of a slot.
-  pub repeats-first : (number i : ℕ) → Finds s f after number (Find.At i) → Repeats (withFirst number s f before) (length before + 1) true
-  repeats-first number i found =
+  pub repeats-first : (number : ℕ) (r : Find) → Finds s f after number r → (i : ℕ) → r ≡ Find.At i → Repeats (withFirst number s f before) (length before + 1) true
+  repeats-first number r finds i is =
+      let found : Finds s f after number (Find.At i) = subst (Finds s f after number) is finds in
       let at = back i (found .0) in
       (0, suc (at .place), omega arith, omega (arith, at .inside), sym (ap (numberOf s f) (at .is) ∙ found .1))
 
@@ -100,27 +101,43 @@ module _ (s : List ℕ) (f : Field) (within : Within s f) (before after : List �
         never : (x : ℕ) → ((k : ℕ) × Behind s f after k × (getD after k 0 ≡ x)) → x < f .count → ⊥
         never x at small = let least = pass .least (at .0) (at .1) in omega (arith, least, at .2)
 
-    pub repeats-told : Finds s f after number Find.Absent → Repeats (withFirst number s f before) (length before + 1) (ltb m (f .count))
-    repeats-told absent = go (ltb m (f .count)) refl
+    pub repeats-told : (r : Find) → Finds s f after number r → r ≡ Find.Absent → Repeats (withFirst number s f before) (length before + 1) (ltb m (f .count))
+    repeats-told r finds is = go (ltb m (f .count)) refl
       where
+        absent : Finds s f after number Find.Absent
+        absent = subst (Finds s f after number) is finds
+
         go : (b : Bool) → ltb m (f .count) ≡ b → Repeats (withFirst number s f before) (length before + 1) b
         go true e = repeats-later (ltb-true m (f .count) e)
         go false e = repeats-never absent (ltb-false m (f .count) e)
 
-module _ (s : List ℕ) (f : Field) (within : Within s f) (n : ℕ) (few : n ≤ f .count) (after : List ℕ) (sorted : Sorted s f (upTo n) after) where
-  first-behind : (p q : ℕ) → p < q → q < n → numberOf s f p ≡ numberOf s f q → (i : ℕ) × Behind s f after i × (getD after i 0 ≡ q)
-  first-behind p q lt inside =
-      later-behind s f within (upTo n) after sorted (upTo-below n (f .count) few) (λ x. count-once x 0 n) p q lt (upTo-has n p (omega arith)) (upTo-has n q inside)
+-- The slots were filled before they were sorted.
+module _ (s : List ℕ) (f : Field) (within : Within s f) (n : ℕ) (few : n ≤ f .count) (filled : List ℕ) (is : filled ≡ upTo n) where
+  pub filled-below : AllBelow (f .count) filled
+  filled-below = rw is (upTo-below n (f .count) few)
 
-  pub first-repeat : (m : ℕ) → LeastBehind s f after n m → FirstRepeat (numberOf s f) n m
-  first-repeat m pass = record {
-    most = pass .most;
-    apart = λ i j lt inside same.
-        let at = first-behind i j lt (omega (arith, pass .most)) same in
-        let least = pass .least (at .0) (at .1) in
-        omega (arith, least, at .2);
-    again = λ lt.
-        let at = pass .some lt in
-        let up = behind-later s f within (upTo n) after sorted (upTo-below n (f .count) few) (λ x. count-once x 0 n) (at .0) (at .1) in
-        (getD after (at .0 - 1) 0, omega (arith, up, at .2), at .1 .equal ∙ ap (numberOf s f) (at .2));
-  }
+  filled-once : (x : ℕ) → times x filled ≤ 1
+  filled-once = rw is (λ x. count-once x 0 n)
+
+  filled-has : (x : ℕ) → x < n → 0 < times x filled
+  filled-has = rw is (upTo-has n)
+
+  module _ (after : List ℕ) (sorted : Sorted s f filled after) where
+    pub filled-sorted : Sorted s f (upTo n) after
+    filled-sorted = rw is at sorted
+
+    -- The pass was given the slots' length.
+    pub first-repeat : (m : ℕ) → LeastBehind s f after (length after) m → FirstRepeat (numberOf s f) n m
+    first-repeat m pass =
+        let long : length after ≡ n = sorted .length ∙ ap length is ∙ count-length 0 n in
+        record {
+          most = omega (arith, pass .most, long);
+          apart = λ i j lt inside same.
+              let at = later-behind s f within filled after sorted filled-below filled-once i j lt (filled-has i (omega (arith, pass .most, long))) (filled-has j (omega (arith, pass .most, long))) same in
+              let least = pass .least (at .0) (at .1) in
+              omega (arith, least, at .2);
+          again = λ lt.
+              let at = pass .some (omega (arith, long)) in
+              let up = behind-later s f within filled after sorted filled-below filled-once (at .0) (at .1) in
+              (getD after (at .0 - 1) 0, omega (arith, up, at .2), at .1 .equal ∙ ap (numberOf s f) (at .2));
+        }

@@ -1,31 +1,39 @@
+-- `first_repeat` meets its contract: what the pass over sorted neighbours finds is the first repeat in file order. Assumes nothing.
 use borrow.Author.Needs.{needs}
+use Rattle.order.proofs.Laws.{sorted-below}
+use Rattle.order.proofs.Repeating.{filled-below, filled-sorted, first-repeat}
 use Rattle.order.proofs.repeats.first_repeat.Statement.{statement}
 use Rattle.order.proofs.repeats.first_repeat.Tie as tie
-use Rattle.order.proofs.repeats.first_repeat.Reads as reads
-use Rattle.order.proofs.repeats.first_repeat.Lts as lts
-use Rattle.order.proofs.repeats.fill.Reads as fill-reads
-use Rattle.order.proofs.repeats.least_behind.Reads as least-behind-reads
-use Rattle.order.proofs.sorting.sort.Reads as sort-reads
 
--- src/repeats.rt:72:5
 fill-requires : tie.Need-fill-requires
 fill-requires c κs = search needs
 
--- src/repeats.rt:73:5
 sort-requires : tie.Need-sort-requires
-sort-requires c κs = ?
+sort-requires c κs =
+    let fill = c .before .before .before in
+    let start = fill .before .before .before .before in
+    (start .pre .0, filled-below _ _ (start .pre .0) _ (start .pre .1) _ (fill .fill .ensures))
 
--- src/repeats.rt:74:5
 least-behind-requires : tie.Need-least-behind-requires
-least-behind-requires c κs = ?
+least-behind-requires c κs =
+    let sort = c .before .before .before in
+    let fill = sort .before .before .before .before in
+    let start = fill .before .before .before .before in (
+      start .pre .0,
+      sorted-below _ _ _ _ (sort .sort .ensures) _ (filled-below _ _ (start .pre .0) _ (start .pre .1) _ (fill .fill .ensures)),
+    )
 
--- src/repeats.rt:66:1
 same-length : tie.Need-same-length
 same-length c = search needs
 
--- src/repeats.rt:66:1
 returns : tie.Need-returns
-returns c = ?
+returns c =
+    let sort = c .before .before .before .before in
+    let fill = sort .before .before .before .before in
+    let start = fill .before .before .before .before in (
+      first-repeat _ _ (start .pre .0) _ (start .pre .1) _ (fill .fill .ensures) _ (sort .sort .ensures) _ (c .least-behind .ensures),
+      filled-sorted _ _ (start .pre .0) _ (start .pre .1) _ (fill .fill .ensures) _ (sort .sort .ensures),
+    )
 
 pub first-repeat-spec : {M : Type 1} → statement M
 first-repeat-spec =

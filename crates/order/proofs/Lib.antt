@@ -1,8 +1,11 @@
 pub mod Between
 pub mod Building
+pub mod Counted
 pub mod Heaps
 pub mod Laws
+pub mod Neighbours
 pub mod Numbers
+pub mod Repeating
 pub mod Risen
 pub mod Sinks
 pub mod Swaps

@@ -2,3 +2,4 @@ pub mod Field
 pub mod Sorted
 pub mod Heap
 pub mod Find
+pub mod Repeat

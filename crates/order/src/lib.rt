@@ -3,5 +3,6 @@
 pub mod answer;
 pub mod field;
 mod heap;
+pub mod repeats;
 pub mod search;
 pub mod sorting;

@@ -1,4 +1,5 @@
 pub mod Places
 pub mod Going
 pub mod ByIndex
-pub mod Frames
+pub mod KeysAsked
+pub mod Meets

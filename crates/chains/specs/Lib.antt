@@ -1,3 +1,5 @@
 pub mod Block
 pub mod Lookup
 pub mod Walk
+pub mod Fault
+pub mod Tracks

@@ -107,3 +107,20 @@ pub fn first_link(s: &[u8], b: Block, track: usize) -> u32
 {
     initial_number(s, b, track, 8)
 }
+
+// Where a record's body begins: behind its links.
+pub fn body_at(s: &[u8], b: Block, p: usize) -> usize
+    requires { ⌜ Fits (now s) b ⌝ }
+    requires { ⌜ p < b .records .count ⌝ }
+    ensures { λ r. ⌜ r ≡ links (now (s .entry)) b .at p .body ⌝ }
+{
+    place(b.records, p) + 16
+}
+
+pub fn first_body(s: &[u8], b: Block, track: usize) -> usize
+    requires { ⌜ Fits (now s) b ⌝ }
+    requires { ⌜ track < b .initials .count ⌝ }
+    ensures { λ r. ⌜ r ≡ links (now (s .entry)) b .initial track .body ⌝ }
+{
+    place(b.initials, track) + 12
+}

@@ -16,18 +16,9 @@ use Rattle.clip.specs.First.{given, _or_, member}
 use Rattle.clip.specs.Fields.{Records, Kind, refusalOf, signed, negative}
 use Rattle.clip.specs.Keys.{Key, KeyTest, keyTest, bodyRefusal}
 use Rattle.clip.specs.Build.{recordKey, reachedBefore, recordsRefusal}
+use Rattle.order.specs.Repeat.{FirstRepeat}
+use Rattle.chains.specs.Tracks.{framesOf, earlier}
 use Rattle.clip.proofs.First.{below-suc, contrary, or-true, true-or}
-
--- f 0, .., f (j - 1), the last one first.
-abbrev pub earlier : (ℕ → ℕ) → ℕ → List ℕ
-earlier f zero = []
-earlier f (suc j) = f j ∷ earlier f j
-
--- Of n frames, the first one that stands before too; n if there is none.
-pub record FirstRepeat (f : ℕ → ℕ) (n m : ℕ) : Type 0 where
-  pub most : m ≤ n
-  pub apart : (i j : ℕ) → i < j → j < m → f i ≡ f j → ⊥
-  pub again : m < n → (i : ℕ) × (i < m) × (f i ≡ f m)
 
 module _ (f : ℕ → ℕ) where
   earlier-member : (n j i : ℕ) → i < j → f i ≡ n → member n (earlier f j) ≡ true
@@ -53,19 +44,13 @@ module _ (f : ℕ → ℕ) where
       let less = a .1 in
       earlier-member (f j) j (a .0) (omega (arith, less, e)) (a .2 ∙ ap f (sym e))
 
-module _ {B : Type 0} (r : Records B) (t : ℕ) (ps : List ℕ) where
-  -- The frames of a track's keys.
-  abbrev pub framesOf : ℕ → ℕ
-  framesOf zero = r .initial t .frame
-  framesOf (suc i) = r .at (getD ps i 0) .frame
-
 module _ {B : Type 0} (kind : Kind) (asked : B → Option ℕ) (r : Records B) (t : ℕ) (ps : List ℕ) where
   -- What is left of the records of a chain.
   abbrev pub rest : ℕ → Option Refusal
   rest i = recordsRefusal kind (keyTest kind asked) r t (earlier (framesOf r t ps) (suc i)) (drop i ps)
 
   module _ (i : ℕ) (inside : i < length ps) (new : reachedBefore kind r t (getD ps i 0) ≡ false) where
-    one : rest i ≡ (keyTest kind asked t (earlier (framesOf r t ps) (suc i)) (recordKey (r .at (getD ps i 0))) or rest (suc i))
+    pub one : rest i ≡ (keyTest kind asked t (earlier (framesOf r t ps) (suc i)) (recordKey (r .at (getD ps i 0))) or rest (suc i))
     unfolding recordsRefusal
     one = rw (drop-cons ps i 0 inside, new)
 

@@ -1,0 +1,146 @@
+-- The tracks, one by one, and the keys of a track, one by one: what is met first. Assumes nothing.
+use Prim.Native.Nat.{ℕ, zero, suc, _+_, _≤_, _<_}
+use native.Mathlib.Numerals.{add-one}
+use native.Mathlib.Omega.{arith}
+use mathlib.Core.Bool.{Bool, true, false}
+use mathlib.Core.List.{List, [], _∷_}
+use mathlib.Core.Option.{Option, none, some}
+use mathlib.Core.Path.{_≡_, refl, sym, ap, _∙_, subst}
+use borrow.Author.Tests.{eqb-true, eqb-false, eq-eqb, ne-eqb}
+use lib.Dec.{eqb}
+use lib.IntN.{pos}
+use lib.ListN.{length, getD, take, drop, drop-of-length-le}
+use lib.Seq.{getD-take, length-take-le}
+use Rattle.layout.specs.Walk.{Refusal, Answer, answered, declined}
+use Rattle.clip.specs.First.{given, _or_, first, member}
+use Rattle.clip.specs.Fields.{Records, refusalOf, signed, negative}
+use Rattle.clip.specs.Chain.{chain}
+use Rattle.clip.specs.Keys.{keyTest, bodyRefusal}
+use Rattle.clip.specs.Build.{initialKey, recordKey, positions, chainRefusal, chainOf, reachedBefore, recordsRefusal, trackRefusal}
+use Rattle.clip.proofs.First.{below-suc, or-none, true-or}
+use Rattle.clip.proofs.Indexed.{Indexed}
+use Rattle.clip.proofs.Chained.{Chained, all-below}
+use Rattle.clip.proofs.Follow.{is-chain}
+use Rattle.clip.proofs.Shared.{never-shared}
+use Rattle.chains.specs.Block.{Fits, kindOf, links}
+use Rattle.chains.specs.Lookup.{Ordered}
+use Rattle.chains.specs.Walk.{walkedRead}
+use Rattle.chains.specs.Fault.{faultOf, metRead, askedAt, keyMeets}
+use Rattle.order.specs.Repeat.{FirstRepeat}
+use Rattle.chains.specs.Tracks.{testAt, meets, tracksMeet, Listed, framesOf, earlier, left}
+use Rattle.chains.specs.declared.block.Block.{Block}
+use Rattle.chains.specs.declared.fault.Fault.{Fault}
+use Rattle.chains.specs.declared.fault.Met.{Met}
+use Rattle.chains.specs.declared.walk.Walked.{Walked}
+use Rattle.chains.proofs.KeysAsked.{repeated-not, repeated-is, rest, one}
+
+-- The first that is met after none was met before.
+pub first-met : {A : Type 0} (n : ℕ) (f : ℕ → Option A) (i : ℕ) (a : A) → i < n → first i f ≡ none → f i ≡ some a → first n f ≡ some a
+unfolding first
+first-met zero f i a lt before is = absurd (omega arith)
+first-met (suc n) f i a lt before is =
+    below-suc i n lt
+    (λ last. rw (subst (λ k. first k f ≡ none) last before) (subst (λ k. f k ≡ some a) last is))
+    (λ less. rw (first-met n f i a less before is))
+
+pub first-more : {A : Type 0} (n : ℕ) (f : ℕ → Option A) → first n f ≡ none → f n ≡ none → first (n + 1) f ≡ none
+unfolding first
+first-more n f before is = rw (add-one, before) is
+
+member-place : (ps : List ℕ) (i : ℕ) → i < length ps → member (getD ps i 0) ps ≡ true
+unfolding member
+member-place [] i lt = absurd (omega arith)
+member-place (p ∷ ps) zero lt = rw (eq-eqb p p refl)
+member-place (p ∷ ps) (suc i) lt = true-or (eqb (getD ps i 0) p) (member (getD ps i 0) ps) (member-place ps i (omega arith))
+
+module _ (s : List ℕ) (b : Block) where
+  pub all-meet : (track : ℕ) (why : Refusal) → track < b .initials .count → tracksMeet s b track ≡ none → meets s b track ≡ some why → some why ≡ tracksMeet s b (b .initials .count)
+  all-meet track why lt before is = sym (first-met (b .initials .count) (meets s b) track why lt before is)
+
+  pub track-more : (track : ℕ) → tracksMeet s b track ≡ none → meets s b track ≡ none → tracksMeet s b (track + 1) ≡ none
+  track-more track before is = first-more track (meets s b) before is
+
+  pub chain-meets : (track : ℕ) (why : Refusal) → chain (kindOf (b .kind)) (links s b) track ≡ declined why → meets s b track ≡ some why
+  unfolding trackRefusal
+  chain-meets track why is = rw is
+
+  module _ (slots : List ℕ) (ordered : Ordered s b slots) (track : ℕ) (is-track : track < b .initials .count) (n : ℕ) (list : List ℕ) (listed : Listed s b track n list) where
+    ps : List ℕ
+    ps = take n list
+
+    chain-listed : chainOf (kindOf (b .kind)) (links s b) track ≡ take n list
+    unfolding chainOf
+    chain-listed = ap positions listed
+
+    pub initial-meets : meets s b track ≡ (keyMeets s (b .kind) track (links s b .initial track .frame) (links s b .initial track .body) false or left s b track (take n list) 0)
+    unfolding trackRefusal keyTest member
+    initial-meets = rw (chain-listed, listed)
+
+    module _ (inside : (i : ℕ) → i < n → i < length (take n list)) (again : ℕ) (repeat : FirstRepeat (framesOf (links s b) track (take n list)) (n + 1) again) (i : ℕ) (lt : i < n) (before : i < again) where
+      place-is : getD list i 0 ≡ getD (take n list) i 0
+      place-is = sym (getD-take n list i 0 lt)
+
+      repeated : member (framesOf (links s b) track (take n list) (suc i)) (earlier (framesOf (links s b) track (take n list)) (suc i)) ≡ eqb (i + 1) again
+      repeated = go (eqb (i + 1) again) refl
+        where
+          go : (x : Bool) → eqb (i + 1) again ≡ x → member (framesOf (links s b) track (take n list) (suc i)) (earlier (framesOf (links s b) track (take n list)) (suc i)) ≡ x
+          go true e = let same = eqb-true (i + 1) again e in repeated-is (framesOf (links s b) track (take n list)) (n + 1) again (suc i) repeat (omega (arith, same)) (omega (arith, lt))
+          go false e = let other = eqb-false (i + 1) again e in repeated-not (framesOf (links s b) track (take n list)) (n + 1) again (suc i) repeat (omega (arith, other, before))
+
+      pub record-meets : left s b track (take n list) i ≡ (keyMeets s (b .kind) track (links s b .at (getD list i 0) .frame) (links s b .at (getD list i 0) .body) (eqb (i + 1) again) or left s b track (take n list) (suc i))
+      unfolding keyTest
+      record-meets =
+          let new = never-shared (kindOf (b .kind)) (links s b) (ordered .indexed) track is-track (getD (take n list) i 0) (subst (λ (l : List ℕ). member (getD (take n list) i 0) l ≡ true) (sym chain-listed) (member-place (take n list) i (inside i lt))) in
+          let step = one (kindOf (b .kind)) (askedAt s (b .kind)) (links s b) track (take n list) i (inside i lt) new in
+          rw (place-is, sym repeated) step
+
+    pub repeat-some : (again : ℕ) → FirstRepeat (framesOf (links s b) track (take n list)) (n + 1) again → 0 < again
+    repeat-some zero repeat = absurd (let a = repeat .again (omega arith) .1 in omega (arith, a))
+    repeat-some (suc again) repeat = omega arith
+
+    -- The keys so far meet nothing.
+    pub record Asking (again i : ℕ) (met : Met) : Type 0 where
+      pub most : i ≤ n
+      pub before : i < again
+      pub so-far : meets s b track ≡ left s b track (take n list) i
+      pub nothing : met ≡ Met.Nothing
+
+    pub asking : (again : ℕ) (met m : Met) → FirstRepeat (framesOf (links s b) track (take n list)) (n + 1) again → met ≡ Met.Nothing → (frame body : ℕ) → frame ≡ links s b .initial track .frame → body ≡ links s b .initial track .body → metRead (kindOf (b .kind)) (b .initials .count) m ≡ keyMeets s (b .kind) track frame body false → m ≡ Met.Nothing → Asking again 0 met
+    asking again met m repeat nothing frame body ef eb contract seen =
+        record {
+          most = omega arith;
+          before = repeat-some again repeat;
+          so-far = initial-meets ∙ rw (sym ef, sym eb, sym contract, seen);
+          nothing = nothing;
+        }
+
+    pub initial-refused : (m : Met) (fault : Fault) (frame body : ℕ) → frame ≡ links s b .initial track .frame → body ≡ links s b .initial track .body → metRead (kindOf (b .kind)) (b .initials .count) m ≡ keyMeets s (b .kind) track frame body false → m ≡ Met.Refused fault → meets s b track ≡ some (faultOf (kindOf (b .kind)) (b .initials .count) fault)
+    initial-refused m fault frame body ef eb contract seen = initial-meets ∙ rw (sym ef, sym eb, sym contract, seen)
+
+    module _ (inside : (i : ℕ) → i < n → i < length (take n list)) (again : ℕ) (repeat : FirstRepeat (framesOf (links s b) track (take n list)) (n + 1) again) (i : ℕ) (lt : i < n) (met m : Met) (a : Asking again i met) (frame body : ℕ) (ef : frame ≡ links s b .at (getD list i 0) .frame) (eb : body ≡ links s b .at (getD list i 0) .body) (contract : metRead (kindOf (b .kind)) (b .initials .count) m ≡ keyMeets s (b .kind) track frame body (eqb (i + 1) again)) where
+      pub record-refused : (fault : Fault) → m ≡ Met.Refused fault → meets s b track ≡ some (faultOf (kindOf (b .kind)) (b .initials .count) fault)
+      record-refused fault seen = a .so-far ∙ record-meets inside again repeat i lt (a .before) ∙ rw (sym ef, sym eb, sym contract, seen)
+
+      -- A frame that is repeated is refused.
+      not-again : m ≡ Met.Nothing → (i + 1 ≡ again → ⊥)
+      not-again seen same =
+          let met-none : keyMeets s (b .kind) track frame body (eqb (i + 1) again) ≡ none = sym contract ∙ ap (metRead (kindOf (b .kind)) (b .initials .count)) seen in
+          let told : keyMeets s (b .kind) track frame body true ≡ none = subst (λ (x : Bool). keyMeets s (b .kind) track frame body x ≡ none) (eq-eqb (i + 1) again same) met-none in
+          let inner : (given true (refusalOf (kindOf (b .kind)) 11 (pos track ∷ signed frame ∷ [])) or bodyRefusal (askedAt s (b .kind) body) track frame) ≡ none = or-none (given (negative frame) (refusalOf (kindOf (b .kind)) 10 (pos track ∷ signed frame ∷ []))) (given true (refusalOf (kindOf (b .kind)) 11 (pos track ∷ signed frame ∷ [])) or bodyRefusal (askedAt s (b .kind) body) track frame) told .1 in
+          let z : _≡_ {A = ℕ} 0 1 = cc in
+          omega arith
+
+      pub asking-more : m ≡ Met.Nothing → Asking again (i + 1) met
+      asking-more seen =
+          let other = not-again seen in
+          let less = a .before in
+          record {
+            most = omega (arith, lt);
+            before = omega (arith, other, less);
+            so-far = rw add-one (a .so-far ∙ record-meets inside again repeat i lt (a .before) ∙ rw (sym ef, sym eb, sym contract, seen));
+            nothing = a .nothing;
+          }
+
+    pub asked-all : (again i : ℕ) (met : Met) → length (take n list) ≤ i → Asking again i met → meets s b track ≡ none
+    unfolding recordsRefusal
+    asked-all again i met all a = a .so-far ∙ rw (drop-of-length-le (take n list) {i = i} all)

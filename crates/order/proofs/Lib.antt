@@ -1,11 +1,13 @@
+pub mod AnyRepeat
 pub mod Between
 pub mod Building
 pub mod Counted
+pub mod Equals
+pub mod FirstOfAll
 pub mod Heaps
 pub mod Laws
 pub mod Neighbours
 pub mod Numbers
-pub mod Repeating
 pub mod Risen
 pub mod Sinks
 pub mod Swaps

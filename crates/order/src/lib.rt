@@ -1,5 +1,5 @@
-// Slots hold positions of records. They are put in rising order by a number of each record, in place, and the record of a number is
-// found among them. Neither takes more than about n log n steps, whatever the bytes are, nor memory of its own.
+// Positions of records put in rising order by a number of each record, in place, the record of a number found among them, and numbers
+// that stand twice. Each call takes about n log n steps at most, whatever the bytes are, and no memory of its own.
 pub mod answer;
 pub mod field;
 mod heap;

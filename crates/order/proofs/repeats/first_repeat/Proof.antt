@@ -1,7 +1,7 @@
 -- `first_repeat` meets its contract: what the pass over sorted neighbours finds is the first repeat in file order. Assumes nothing.
 use borrow.Author.Needs.{needs}
 use Rattle.order.proofs.Laws.{sorted-below}
-use Rattle.order.proofs.Repeating.{filled-below, filled-sorted, first-repeat}
+use Rattle.order.proofs.FirstOfAll.{filled-below, filled-sorted, first-repeat}
 use Rattle.order.proofs.repeats.first_repeat.Statement.{statement}
 use Rattle.order.proofs.repeats.first_repeat.Tie as tie
 

@@ -1,7 +1,7 @@
 -- `repeats` meets its contract: a slot has the given number, or equal numbers stand side by side. Assumes nothing.
 use borrow.Author.Needs.{needs}
 use Rattle.order.proofs.Laws.{sorted-below, sorted-numbers}
-use Rattle.order.proofs.Repeating.{repeats-first, repeats-told}
+use Rattle.order.proofs.AnyRepeat.{repeats-first, repeats-told}
 use Rattle.order.proofs.repeats.repeats.Statement.{statement}
 use Rattle.order.proofs.repeats.repeats.Tie as tie
 

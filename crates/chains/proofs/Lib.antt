@@ -3,3 +3,4 @@ pub mod Going
 pub mod ByIndex
 pub mod KeysAsked
 pub mod Meets
+pub mod Scanned

@@ -4,4 +4,5 @@ pub mod block;
 pub mod fault;
 pub mod key;
 pub mod lookup;
+pub mod scan;
 pub mod walk;

@@ -13,3 +13,10 @@ walkedRead kind track list (Walked.Ends n) = answered (take n list)
 walkedRead kind track list (Walked.Missing link) = declined (refusalOf kind 6 (pos track ∷ signed link ∷ []))
 walkedRead kind track list (Walked.Cycle link) = declined (refusalOf kind 7 (pos track ∷ signed link ∷ []))
 walkedRead kind track list (Walked.Wrong link found expected) = declined (refusalOf kind 8 (pos track ∷ signed link ∷ signed found ∷ signed expected ∷ []))
+
+-- How many records are listed.
+abbrev pub listedMany : Walked → ℕ
+listedMany (Walked.Ends n) = n
+listedMany (Walked.Missing link) = 0
+listedMany (Walked.Cycle link) = 0
+listedMany (Walked.Wrong link found expected) = 0

@@ -6,7 +6,7 @@ ghost use Rattle.clip.specs.First.{member};
 ghost use Rattle.clip.specs.Chain.{chain};
 ghost use Rattle.chains.specs.Block.{kindOf, links};
 ghost use Rattle.chains.specs.Lookup.{Ordered};
-ghost use Rattle.chains.specs.Walk.{walkedRead};
+ghost use Rattle.chains.specs.Walk.{walkedRead, listedMany};
 use crate::block;
 use crate::block::Block;
 use crate::lookup;
@@ -42,6 +42,7 @@ pub fn walk(s: &[u8], b: Block, slots: &[u16], track: usize, list: &mut [u16]) -
     requires { ⌜ b .records .count ≤ length (now list) ⌝ }
     ensures { λ r. ⌜ walkedRead (kindOf (b .kind)) track (now (list .exit)) r ≡ chain (kindOf (b .kind)) (links (now (s .entry)) b) track ⌝ }
     ensures { λ _. ⌜ length (now (list .exit)) ≡ length (now (list .entry)) ⌝ }
+    ensures { λ r. ⌜ listedMany r ≤ b .records .count ⌝ }
 {
     let mut link = block::first_link(s, b, track);
     let mut expected = track as u32;

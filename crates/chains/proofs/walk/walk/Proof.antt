@@ -40,7 +40,7 @@ returns : tie.Need-returns Inv-loop μ-loop
 returns c =
     let start = c .before .before .before .before .before .before .before .before .before in
     let loop = c .before .before .before .before .loop in
-    (misses (start .args .s .now) (start .args .b) (start .args .slots .now) (start .pre .0) (start .args .track) (start .pre .1 .0) (start .args .list .now) (start .pre .1 .1) (loop .list) (loop .link) (loop .expected) (loop .n) (loop .inv) (c .before .before .before .loop-test .taken) (c .before .before .lookup .result) (c .before .before .lookup .ensures) (c .enum-told .given .1), loop .inv .same)
+    (misses (start .args .s .now) (start .args .b) (start .args .slots .now) (start .pre .0) (start .args .track) (start .pre .1 .0) (start .args .list .now) (start .pre .1 .1) (loop .list) (loop .link) (loop .expected) (loop .n) (loop .inv) (c .before .before .before .loop-test .taken) (c .before .before .lookup .result) (c .before .before .lookup .ensures) (c .enum-told .given .1), (loop .inv .same, omega arith))
 
 enum-known-p : tie.Need-enum-known-p Inv-loop μ-loop
 enum-known-p c = search needs
@@ -67,7 +67,7 @@ returns-2 : tie.Need-returns-2 Inv-loop μ-loop
 returns-2 c =
     let start = c .before .before .before .before .before .before .before .before .before .before .before .before .before .before .before in
     let loop = c .before .before .before .before .before .before .before .before .before .before .loop in
-    (cycles (start .args .s .now) (start .args .b) (start .args .slots .now) (start .pre .0) (start .args .track) (start .pre .1 .0) (start .args .list .now) (start .pre .1 .1) (loop .list) (loop .link) (loop .expected) (loop .n) (loop .inv) (c .before .before .before .before .before .before .before .before .before .loop-test .taken) (c .before .before .before .before .before .before .before .before .lookup .result) (c .before .before .before .before .before .before .p .given .0 .0) (c .before .before .before .before .before .before .before .before .lookup .ensures) (c .before .before .before .before .before .before .p .given .1) (c .before .before .before .before .previous-at .result) (c .before .before .before .before .previous-at .ensures) (sym (c .if2 .taken) ∙ c .before .listed .ensures), loop .inv .same)
+    (cycles (start .args .s .now) (start .args .b) (start .args .slots .now) (start .pre .0) (start .args .track) (start .pre .1 .0) (start .args .list .now) (start .pre .1 .1) (loop .list) (loop .link) (loop .expected) (loop .n) (loop .inv) (c .before .before .before .before .before .before .before .before .before .loop-test .taken) (c .before .before .before .before .before .before .before .before .lookup .result) (c .before .before .before .before .before .before .p .given .0 .0) (c .before .before .before .before .before .before .before .before .lookup .ensures) (c .before .before .before .before .before .before .p .given .1) (c .before .before .before .before .previous-at .result) (c .before .before .before .before .previous-at .ensures) (sym (c .if2 .taken) ∙ c .before .listed .ensures), (loop .inv .same, omega arith))
 
 same-length-3 : tie.Need-same-length-3 Inv-loop μ-loop
 same-length-3 c = c .before .before .before .before .before .before .before .before .before .before .loop .inv .same
@@ -76,7 +76,7 @@ returns-3 : tie.Need-returns-3 Inv-loop μ-loop
 returns-3 c =
     let start = c .before .before .before .before .before .before .before .before .before .before .before .before .before .before .before in
     let loop = c .before .before .before .before .before .before .before .before .before .before .loop in
-    (wrong (start .args .s .now) (start .args .b) (start .args .slots .now) (start .pre .0) (start .args .track) (start .pre .1 .0) (start .args .list .now) (start .pre .1 .1) (loop .list) (loop .link) (loop .expected) (loop .n) (loop .inv) (c .before .before .before .before .before .before .before .before .before .loop-test .taken) (c .before .before .before .before .before .before .before .before .lookup .result) (c .before .before .before .before .before .before .p .given .0 .0) (c .before .before .before .before .before .before .before .before .lookup .ensures) (c .before .before .before .before .before .before .p .given .1) (c .before .before .before .before .previous-at .result) (c .before .before .before .before .previous-at .ensures) (sym (c .if2 .left) ∙ c .before .listed .ensures) (c .before .before .before .if1 .taken), loop .inv .same)
+    (wrong (start .args .s .now) (start .args .b) (start .args .slots .now) (start .pre .0) (start .args .track) (start .pre .1 .0) (start .args .list .now) (start .pre .1 .1) (loop .list) (loop .link) (loop .expected) (loop .n) (loop .inv) (c .before .before .before .before .before .before .before .before .before .loop-test .taken) (c .before .before .before .before .before .before .before .before .lookup .result) (c .before .before .before .before .before .before .p .given .0 .0) (c .before .before .before .before .before .before .before .before .lookup .ensures) (c .before .before .before .before .before .before .p .given .1) (c .before .before .before .before .previous-at .result) (c .before .before .before .before .previous-at .ensures) (sym (c .if2 .left) ∙ c .before .listed .ensures) (c .before .before .before .if1 .taken), (loop .inv .same, omega arith))
 
 cast-list : tie.Need-cast-list Inv-loop μ-loop
 cast-list c =
@@ -135,7 +135,7 @@ returns-4 : tie.Need-returns-4 Inv-loop μ-loop
 returns-4 c =
     let start = c .before .before .before .before .before .before in
     let loop = c .before .loop in
-    (ends (start .args .s .now) (start .args .b) (start .args .slots .now) (start .pre .0) (start .args .track) (start .pre .1 .0) (start .args .list .now) (start .pre .1 .1) (loop .list) (loop .link) (loop .expected) (loop .n) (loop .inv) (c .loop-test .left), loop .inv .same)
+    (ends (start .args .s .now) (start .args .b) (start .args .slots .now) (start .pre .0) (start .args .track) (start .pre .1 .0) (start .args .list .now) (start .pre .1 .1) (loop .list) (loop .link) (loop .expected) (loop .n) (loop .inv) (c .loop-test .left), (loop .inv .same, loop .inv .many))
 
 pub walk-spec : {M : Type 1} → statement M
 walk-spec =

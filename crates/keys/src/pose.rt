@@ -86,6 +86,7 @@ fn orientation_fails(pose: Pose) -> bool
     let z = pose.orientation_z;
     let w = pose.orientation_w;
     let all = finite3(x, y, z) & finite(w);
+    // The limit is 2^-23, equality refused.
     !all | (squared_length(x, y, z, w) <= 1.1920929e-7)
 }
 

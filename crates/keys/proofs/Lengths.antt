@@ -1,5 +1,5 @@
 -- How long a key is, and the parts that it is written in. Assumes nothing.
-use Prim.Native.Nat.{ℕ, _+_}
+use Prim.Native.Nat.{ℕ, _+_, _≤_}
 use native.Mathlib.Omega.{arith}
 use mathlib.Core.Bool.{Bool, true, false, cond}
 use mathlib.Core.List.{List, [], _∷_, _++_, map, append-assoc, append-nil}
@@ -16,7 +16,7 @@ use Rattle.strip.proofs.Written.{bone-shaped, morph-shaped}
 use Rattle.keys.specs.Plain.{plainIn, bonePlain, standing}
 use Rattle.keys.specs.Placed.{headBytes, poseBytes, threeCurves, curveBytes, boneKeyBytes, morphKeyBytes}
 use Rattle.keys.specs.declared.plain.BonePlain.{BonePlain}
-use Rattle.keys.proofs.Groups.{first-curves, fourth-curve, bone-map-is, morph-map-is}
+use Rattle.keys.proofs.Groups.{first-curves, fourth-curve, bone-map-is, morph-map-is, at-most}
 
 -- The widths of the groups that are not plain.
 abbrev pub standingWidths : List Group → List (List ℕ) → ℕ
@@ -54,6 +54,14 @@ module _ (s : List ℕ) (at frame : ℕ) where
 
   pub morph-length-is : 5 + cond (plainIn morphGroups (morphFields (morphBody s at)) 0) 0 4 ≡ length (morphKeyBytes s at frame)
   morph-length-is = let l = key-length morphGroups morphFields (record { frame = frame; body = morphBody s at }) (morph-shaped s at) in omega (arith, l)
+
+  pub bone-most : length (boneKeyBytes s at frame) ≤ 49
+  bone-most =
+      let p = bonePlain (boneBody s at) in
+      omega (arith, bone-length-is, at-most (p .translation) 12, at-most (p .orientation) 16, at-most (p .curves) 12, at-most (p .rotation) 4)
+
+  pub morph-most : length (morphKeyBytes s at frame) ≤ 9
+  morph-most = omega (arith, morph-length-is, at-most (plainIn morphGroups (morphFields (morphBody s at)) 0) 4)
 
   pub bone-any-frame : length (boneKeyBytes s at frame) ≡ length (boneKeyBytes s at 0)
   bone-any-frame = any-frame boneGroups boneFields frame 0 (boneBody s at) (bone-shaped s at)

@@ -2,4 +2,5 @@ pub mod Bodies
 pub mod Asking
 pub mod Groups
 pub mod Placing
+pub mod Stores
 pub mod Lengths

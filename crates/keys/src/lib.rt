@@ -4,4 +4,5 @@ pub mod curves;
 pub mod fields;
 pub mod plain;
 pub mod pose;
+pub mod words;
 pub mod write;

@@ -84,6 +84,7 @@ pub fn morph_plain(s: &[u8], at: usize) -> bool
     pose::weight_at(s, at) == 0.0
 }
 
+// `n`, unless the group is plain.
 pub fn unless(plain: bool, n: u8) -> u8
     ensures { λ r. ⌜ r ≡ cond plain 0 n ⌝ }
 {

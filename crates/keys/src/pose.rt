@@ -4,7 +4,6 @@ ghost use mathlib.Core.Path.{_≡_};
 ghost use Prim.Native.Nat.{_+_, _≤_};
 ghost use lib.ListN.{length};
 ghost use mathlib.Core.Bool.{_&&_};
-ghost use Rattle.layout.specs.Walk.{u32At};
 ghost use Rattle.clip.specs.Keys.{
   finite,
   squaredLength,
@@ -16,12 +15,9 @@ ghost use Rattle.clip.specs.Keys.{
   weightAsked,
 };
 ghost use Rattle.clip.specs.Section.{boneBody, morphBody};
-ghost use Rattle.keys.specs.Words.{words3, words4};
 ghost use Rattle.keys.specs.Answers.{askedRead, morphKeyRead, morphKey};
-use binary::groups::Bits3;
-use binary::groups::Bits4;
+use crate::words;
 use binary::numbers;
-use binary::numbers::ReadU32;
 use records::pose;
 use records::pose::Pose;
 use records::pose::PoseBits;
@@ -38,43 +34,12 @@ pub enum MorphKey {
     Refused(u8),
 }
 
-fn word(s: &[u8], at: usize) -> u32
-    requires { ⌜ at + 4 ≤ length (now s) ⌝ }
-    ensures { λ r. ⌜ r ≡ u32At (now (s .entry)) at ⌝ }
-{
-    match numbers::read_u32_le(s, at) {
-        ReadU32::Value(bits, _) => bits,
-        ReadU32::Short(_) => 0,
-    }
-}
-
-fn three_words(s: &[u8], at: usize) -> Bits3
-    requires { ⌜ at + 12 ≤ length (now s) ⌝ }
-    ensures { λ r. ⌜ r ≡ words3 (now (s .entry)) at ⌝ }
-{
-    let x = word(s, at);
-    let y = word(s, at + 4);
-    let z = word(s, at + 8);
-    Bits3(x, y, z)
-}
-
-fn four_words(s: &[u8], at: usize) -> Bits4
-    requires { ⌜ at + 16 ≤ length (now s) ⌝ }
-    ensures { λ r. ⌜ r ≡ words4 (now (s .entry)) at ⌝ }
-{
-    let x = word(s, at);
-    let y = word(s, at + 4);
-    let z = word(s, at + 8);
-    let w = word(s, at + 12);
-    Bits4(x, y, z, w)
-}
-
 pub fn pose_at(s: &[u8], at: usize) -> Pose
     requires { ⌜ at + 44 ≤ length (now s) ⌝ }
     ensures { λ r. ⌜ r ≡ posed (boneBody (now (s .entry)) at) ⌝ }
 {
-    let translation = three_words(s, at + 16);
-    let orientation = four_words(s, at + 28);
+    let translation = words::three_words(s, at + 16);
+    let orientation = words::four_words(s, at + 28);
     pose::pose_of(PoseBits {
         translation,
         orientation,
@@ -85,7 +50,7 @@ pub fn weight_at(s: &[u8], at: usize) -> f32
     requires { ⌜ at + 4 ≤ length (now s) ⌝ }
     ensures { λ r. ⌜ r ≡ floatAt (morphBody (now (s .entry)) at) 0 ⌝ }
 {
-    numbers::float(word(s, at))
+    numbers::float(words::word(s, at))
 }
 
 pub fn finite(x: f32) -> bool
@@ -121,6 +86,7 @@ fn orientation_fails(pose: Pose) -> bool
     let z = pose.orientation_z;
     let w = pose.orientation_w;
     let all = finite3(x, y, z) & finite(w);
+    // The limit is 2^-23, equality refused.
     !all | (squared_length(x, y, z, w) <= 1.1920929e-7)
 }
 

@@ -9,7 +9,7 @@ use crate::curves;
 use crate::fields;
 use crate::plain;
 
-// The lowest byte of a number, and the others as a number.
+// The lowest byte of a number.
 fn low(n: usize) -> u8
     ensures { λ r. ⌜ r ≡ n % 256 ⌝ }
 {
@@ -20,8 +20,9 @@ pub fn write_count(output: &mut [u8], place: usize, n: usize)
     requires { ⌜ place + 2 ≤ length (now output) ⌝ }
     ensures { λ _. ⌜ now (output .exit) ≡ placed place (littleEndian 2 n) (now (output .entry)) ⌝ }
 {
+    let high = n / 256;
     output[place] = low(n);
-    output[place + 1] = low(n / 256);
+    output[place + 1] = low(high);
 }
 
 pub fn write_u32(output: &mut [u8], place: usize, n: u32)

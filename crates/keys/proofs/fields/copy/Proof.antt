@@ -1,5 +1,5 @@
 -- `copy` meets its contract: in each turn one byte more is copied. Assumes nothing.
-use Rattle.keys.proofs.Placing.{Copied, copied-none, copied-more, copied-all}
+use Rattle.keys.proofs.Stores.{Copied, copied-none, copied-more, copied-all}
 use native.Mathlib.Omega.{arith}
 use Prim.Native.Nat.{_-_}
 use Rattle.keys.proofs.fields.copy.Statement.{statement}

@@ -1,5 +1,5 @@
 -- `write_curve` meets its contract: the four stores. Assumes nothing.
-use Rattle.keys.proofs.Placing.{curve-stored}
+use Rattle.keys.proofs.Stores.{curve-stored}
 use lib.ListN.{length, length-set}
 use mathlib.Core.Path.{_≡_}
 use native.Mathlib.Omega.{arith}

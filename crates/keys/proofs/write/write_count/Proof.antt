@@ -1,5 +1,5 @@
 -- `write_count` meets its contract: the lower byte stands first. Assumes nothing.
-use Rattle.keys.proofs.Placing.{stored2}
+use Rattle.keys.proofs.Stores.{stored2}
 use Rattle.strip.specs.Keys.{littleEndian}
 use lib.ListN.{length-set}
 use native.Mathlib.Omega.{arith}

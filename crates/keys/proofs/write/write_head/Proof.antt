@@ -1,5 +1,5 @@
 -- `write_head` meets its contract: the map byte is stored behind the frame. Assumes nothing.
-use Rattle.keys.proofs.Placing.{head-room, head-wrote}
+use Rattle.keys.proofs.Stores.{head-room, head-wrote}
 use denote.Ref.{now}
 use native.Mathlib.Omega.{arith}
 use borrow.Author.Needs.{needs}

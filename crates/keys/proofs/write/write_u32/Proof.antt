@@ -1,5 +1,5 @@
 -- `write_u32` meets its contract: the lowest byte stands first. Assumes nothing.
-use Rattle.keys.proofs.Placing.{stored4}
+use Rattle.keys.proofs.Stores.{stored4}
 use Rattle.strip.specs.Keys.{littleEndian}
 use lib.ListN.{length-set}
 use native.Mathlib.Omega.{arith}

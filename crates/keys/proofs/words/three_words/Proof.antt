@@ -1,7 +1,7 @@
 -- `three_words` meets its contract: each of the three is read by a call. Assumes nothing.
 use borrow.Author.Needs.{needs}
-use Rattle.keys.proofs.pose.three_words.Statement.{statement}
-use Rattle.keys.proofs.pose.three_words.Tie as tie
+use Rattle.keys.proofs.words.three_words.Statement.{statement}
+use Rattle.keys.proofs.words.three_words.Tie as tie
 
 word-requires : tie.Need-word-requires
 word-requires c κs = search needs

@@ -1,7 +1,7 @@
 -- `four_words` meets its contract: each of the four is read by a call. Assumes nothing.
 use borrow.Author.Needs.{needs}
-use Rattle.keys.proofs.pose.four_words.Statement.{statement}
-use Rattle.keys.proofs.pose.four_words.Tie as tie
+use Rattle.keys.proofs.words.four_words.Statement.{statement}
+use Rattle.keys.proofs.words.four_words.Tie as tie
 
 word-requires : tie.Need-word-requires
 word-requires c κs = search needs

@@ -1,8 +1,8 @@
 -- `word` meets its contract: the four bytes are there. Assumes nothing.
 use Rattle.keys.proofs.Bodies.{value-read, never-short}
 use borrow.Author.Needs.{needs}
-use Rattle.keys.proofs.pose.word.Statement.{statement}
-use Rattle.keys.proofs.pose.word.Tie as tie
+use Rattle.keys.proofs.words.word.Statement.{statement}
+use Rattle.keys.proofs.words.word.Tie as tie
 
 read-u32-le-requires : tie.Need-read-u32-le-requires
 read-u32-le-requires c κs = search needs

@@ -4,3 +4,5 @@ pub mod ByIndex
 pub mod KeysAsked
 pub mod Meets
 pub mod Scanned
+pub mod Readied
+pub mod Asking

@@ -3,4 +3,5 @@ pub mod Lookup
 pub mod Walk
 pub mod Fault
 pub mod Tracks
+pub mod Ready
 pub mod Scan

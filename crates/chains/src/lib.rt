@@ -4,5 +4,7 @@ pub mod block;
 pub mod fault;
 pub mod key;
 pub mod lookup;
+pub mod ready;
 pub mod scan;
+pub mod tracks;
 pub mod walk;

@@ -5,3 +5,4 @@ pub mod Call
 pub mod Written
 pub mod Demand3
 pub mod Length
+pub mod Bodies

@@ -2,4 +2,6 @@ pub mod Places
 pub mod Going
 pub mod ByIndex
 pub mod KeysAsked
+pub mod FirstRepeats
+pub mod ChainFrames
 pub mod Meets

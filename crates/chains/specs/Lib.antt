@@ -3,3 +3,4 @@ pub mod Lookup
 pub mod Walk
 pub mod Fault
 pub mod Tracks
+pub mod Frames

@@ -1,40 +1,29 @@
--- The chain of a track in a list, and the frames of its records as a field of theirs. Assumes nothing.
-use Prim.Native.Nat.{ℕ, zero, suc, _+_, _*_, _≤_, _<_}
+-- The frames of the first records of a chain, as a field of the records that a list names. Assumes nothing.
+use Prim.Native.Nat.{ℕ, zero, suc, _+_, _≤_, _<_}
 use native.Mathlib.Numerals.{add-one}
 use native.Mathlib.Omega.{arith}
 use mathlib.Core.Bool.{Bool, true, false, cond, _||_}
 use mathlib.Core.List.{List, [], _∷_}
 use mathlib.Core.Path.{_≡_, refl, sym, ap, _∙_, subst}
-use borrow.Author.Tests.{eqb-true, ne-eqb}
+use borrow.Author.Tests.{eqb-true}
 use lib.Dec.{eqb}
-use lib.ListN.{length, take, getD, length-take}
-use lib.Seq.{getD-take, length-take-le, take-take, take-all, take-length}
-use Rattle.layout.specs.Walk.{u32At, Answer, answered, declined}
+use lib.ListN.{length, take, getD}
+use lib.Seq.{getD-take, length-take-le, take-take}
+use Rattle.layout.specs.Walk.{u32At}
 use Rattle.order.specs.declared.field.Field.{Field}
 use Rattle.order.specs.Field.{numberOf, Within, AllBelow}
 use Rattle.order.specs.Sorted.{times}
-use Rattle.order.specs.Repeat.{FirstRepeat, Repeats, withFirst}
+use Rattle.order.specs.Repeat.{Repeats, withFirst}
 use Rattle.order.proofs.Laws.{within-block}
 use Rattle.clip.specs.First.{member}
-use Rattle.clip.specs.Chain.{chain}
 use Rattle.clip.specs.Section.{additionalAt}
-use Rattle.clip.specs.Build.{positions, chainOf}
-use Rattle.clip.proofs.Counting as Counting
-use Rattle.clip.proofs.Chained.{all-below, no-repeats}
-use Rattle.clip.proofs.Follow.{answer-is, no-answer, is-chain}
-use Rattle.chains.specs.Block.{Fits, bodySize, kindOf, links}
-use Rattle.chains.specs.Lookup.{Ordered}
-use Rattle.chains.specs.Walk.{walkedRead}
-use Rattle.chains.specs.Tracks.{Listed, framesOf}
+use Rattle.clip.proofs.Counting.{Distinct}
+use Rattle.chains.specs.Block.{Fits, links}
+use Rattle.chains.specs.Tracks.{framesOf}
 use Rattle.chains.specs.Frames.{chainAt, framesAt, Ends, Rising}
 use Rattle.chains.specs.declared.block.Block.{Block}
-use Rattle.chains.specs.declared.walk.Walked.{Walked}
 use Rattle.chains.proofs.FirstRepeats.{rising-more, repeats-same}
-
-below-place : (n : ℕ) (ps : List ℕ) → Counting.AllBelow n ps → AllBelow n ps
-below-place n [] below i lt = absurd (omega arith)
-below-place n (p ∷ ps) below zero lt = below .0
-below-place n (p ∷ ps) below (suc i) lt = below-place n ps (below .1) i (omega arith)
+use Rattle.chains.proofs.ListedChain.{chain-below, chain-distinct}
 
 member-none : (x : ℕ) (ps : List ℕ) → member x ps ≡ false → times x ps ≡ 0
 unfolding member times
@@ -45,7 +34,7 @@ member-none x (p ∷ ps) out = go (eqb x p) out (member-none x ps)
     go true out rest = absurd (let z : _≡_ {A = ℕ} 0 1 = cc in omega arith)
     go false out rest = let none = rest out in omega (arith, none)
 
-distinct-once : (x : ℕ) (ps : List ℕ) → Counting.Distinct ps → times x ps ≤ 1
+distinct-once : (x : ℕ) (ps : List ℕ) → Distinct ps → times x ps ≤ 1
 unfolding times
 distinct-once x [] d = omega arith
 distinct-once x (p ∷ ps) d = go (eqb x p) refl (distinct-once x ps (d .1))
@@ -76,75 +65,38 @@ module _ (s : List ℕ) (b : Block) where
   unfolding numberOf additionalAt
   frame-is p = ap (λ (at : ℕ). u32At s at) (omega arith)
 
-  pub listed-below : (track n : ℕ) (list : List ℕ) → Listed s b track n list → n ≤ length list → (i : ℕ) → i < n → getD list i 0 < b .records .count
-  listed-below track n list listed room i lt =
-      let chained = is-chain (kindOf (b .kind)) (links s b) track (take n list) listed in
-      let long = length-take-le n list room in
-      subst (λ p. p < b .records .count) (getD-take n list i 0 lt) (below-place (b .records .count) (take n list) (all-below (links s b) (take n list) track (links s b .initial track .next) chained) i (omega (arith, long)))
-
-  pub listed-is : (track n : ℕ) (list : List ℕ) → Listed s b track n list → chainAt s b track ≡ take n list
-  unfolding chainOf
-  listed-is track n list listed = ap positions listed
-
   -- One record more, whose frame is above the last one.
   pub rising-record : (track n : ℕ) (list : List ℕ) (i last frame : ℕ) → last ≡ framesOf (links s b) track (take n list) i → Rising (framesOf (links s b) track (take n list)) n i → i < n → frame ≡ links s b .at (getD list i 0) .frame → last < frame → (frame ≡ framesOf (links s b) track (take n list) (i + 1)) × Rising (framesOf (links s b) track (take n list)) n (i + 1)
   rising-record track n list i last frame is x lt here up =
       let next : frame ≡ framesOf (links s b) track (take n list) (i + 1) = here ∙ ap (λ p. links s b .at p .frame) (sym (getD-take n list i 0 lt)) ∙ ap (framesOf (links s b) track (take n list)) (sym (add-one i)) in
       (next, rising-more (framesOf (links s b) track (take n list)) n i x lt (omega (arith, is, next, up)))
 
-  pub ends-again : (slots : List ℕ) (track places places′ : ℕ) → Ends s b slots track places → places′ ≡ places → Ends s b slots track places′
-  ends-again slots track places places′ x same = subst (λ n. Ends s b slots track n) (sym same) x
+  -- The first records of the chain, in a list that begins with it.
+  module _ (slots : List ℕ) (track places : ℕ) (x : Ends s b slots track places) (list : List ℕ) (is : take (length (chainAt s b track)) list ≡ chainAt s b track) (records : ℕ) (most : records ≤ length (chainAt s b track)) where
+    front : take records list ≡ take records (chainAt s b track)
+    front = sym (take-take records (length (chainAt s b track)) list most) ∙ ap (take records) is
 
-  module _ (slots : List ℕ) (track places : ℕ) (x : Ends s b slots track places) where
-    places-below : Counting.AllBelow (b .records .count) (chainAt s b track)
-    places-below = all-below (links s b) (chainAt s b track) track (links s b .initial track .next) (is-chain (kindOf (b .kind)) (links s b) track (chainAt s b track) (x .ends))
+    front-long : length (take records list) ≡ records
+    front-long = ap length front ∙ length-take-le records (chainAt s b track) most
 
-    places-once : Counting.Distinct (chainAt s b track)
-    places-once = no-repeats (links s b) (x .ordered .indexed) track (x .is-track) (links s b .initial track .next) (chainAt s b track) (is-chain (kindOf (b .kind)) (links s b) track (chainAt s b track) (x .ends))
+    front-at : (i : ℕ) → i < records → getD (take records list) i 0 ≡ getD (chainAt s b track) i 0
+    front-at i lt = ap (λ (ps : List ℕ). getD ps i 0) front ∙ getD-take records (chainAt s b track) i 0 lt
 
-    pub chain-short : length (chainAt s b track) ≤ places
-    chain-short = let most = Counting.distinct-length (b .records .count) (chainAt s b track) places-once places-below in omega (arith, most, x .room)
+    pub front-below : AllBelow (b .records .count) (take records list)
+    front-below i lt =
+        let long = front-long in
+        let inside : i < records = omega (arith, long) in
+        subst (λ p. p < b .records .count) (sym (front-at i inside)) (chain-below s b slots track places x i (omega (arith, inside)))
 
-    -- What the walk lists is the chain.
-    pub walked-again : (list : List ℕ) (w : Walked) → walkedRead (kindOf (b .kind)) track list w ≡ chain (kindOf (b .kind)) (links s b) track → take (length (chainAt s b track)) list ≡ chainAt s b track
-    walked-again list w contract = go w (contract ∙ x .ends)
+    pub front-once : (p : ℕ) → times p (take records list) ≤ 1
+    front-once p =
+        let part = subst (λ (ps : List ℕ). times p ps ≤ times p (chainAt s b track)) (sym front) (times-take p records (chainAt s b track)) in
+        let once = distinct-once p (chainAt s b track) (chain-distinct s b slots track places x) in
+        omega (arith, part, once)
+
+    pub front-repeats : (n : ℕ) → n ≡ records → (first : ℕ) → first ≡ links s b .initial track .frame → (r : Bool) → Repeats (withFirst first s (frameField b) (take records list)) (length (take records list) + 1) r → Repeats (framesAt s b track) (n + 1) r
+    front-repeats n all first frame r told = repeats-same (framesAt s b track) (withFirst first s (frameField b) (take records list)) (n + 1) same r (subst (λ k. Repeats (withFirst first s (frameField b) (take records list)) (k + 1) r) (front-long ∙ sym all) told)
       where
-        go : (w : Walked) → walkedRead (kindOf (b .kind)) track list w ≡ answered (chainAt s b track) → take (length (chainAt s b track)) list ≡ chainAt s b track
-        go (Walked.Ends m) e =
-            let is = answer-is e in
-            let long = ap length is in
-            let short = length-take m list in
-            sym (take-take (length (chainAt s b track)) m list (omega (arith, long, short))) ∙ ap (take (length (chainAt s b track))) is ∙ take-length (chainAt s b track)
-        go (Walked.Missing link) e = no-answer e
-        go (Walked.Cycle link) e = no-answer e
-        go (Walked.Wrong link found expected) e = no-answer e
-
-    -- The first records of the chain, listed.
-    module _ (list : List ℕ) (is : take (length (chainAt s b track)) list ≡ chainAt s b track) (records : ℕ) (most : records ≤ length (chainAt s b track)) where
-      front : take records list ≡ take records (chainAt s b track)
-      front = sym (take-take records (length (chainAt s b track)) list most) ∙ ap (take records) is
-
-      front-long : length (take records list) ≡ records
-      front-long = ap length front ∙ length-take-le records (chainAt s b track) most
-
-      front-at : (i : ℕ) → i < records → getD (take records list) i 0 ≡ getD (chainAt s b track) i 0
-      front-at i lt = ap (λ (ps : List ℕ). getD ps i 0) front ∙ getD-take records (chainAt s b track) i 0 lt
-
-      pub front-below : AllBelow (b .records .count) (take records list)
-      front-below i lt =
-          let long = front-long in
-          let inside : i < records = omega (arith, long) in
-          subst (λ p. p < b .records .count) (sym (front-at i inside)) (below-place (b .records .count) (chainAt s b track) places-below i (omega (arith, inside)))
-
-      pub front-once : (p : ℕ) → times p (take records list) ≤ 1
-      front-once p =
-          let part = subst (λ (ps : List ℕ). times p ps ≤ times p (chainAt s b track)) (sym front) (times-take p records (chainAt s b track)) in
-          let once = distinct-once p (chainAt s b track) places-once in
-          omega (arith, part, once)
-
-      pub front-repeats : (n : ℕ) → n ≡ records → (first : ℕ) → first ≡ links s b .initial track .frame → (r : Bool) → Repeats (withFirst first s (frameField b) (take records list)) (length (take records list) + 1) r → Repeats (framesAt s b track) (n + 1) r
-      front-repeats n all first frame r told = repeats-same (framesAt s b track) (withFirst first s (frameField b) (take records list)) (n + 1) same r (subst (λ k. Repeats (withFirst first s (frameField b) (take records list)) (k + 1) r) (front-long ∙ sym all) told)
-        where
-          same : (i : ℕ) → i < n + 1 → withFirst first s (frameField b) (take records list) i ≡ framesAt s b track i
-          same zero lt = frame
-          same (suc i) lt = frame-is (getD (take records list) i 0) ∙ ap (λ p. links s b .at p .frame) (front-at i (omega arith))
+        same : (i : ℕ) → i < n + 1 → withFirst first s (frameField b) (take records list) i ≡ framesAt s b track i
+        same zero lt = frame
+        same (suc i) lt = frame-is (getD (take records list) i 0) ∙ ap (λ p. links s b .at p .frame) (front-at i (omega arith))

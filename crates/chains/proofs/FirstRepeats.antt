@@ -28,6 +28,9 @@ module _ (f : ℕ → ℕ) where
     pub rising-apart : (r : ℕ) → Rising f n r → Repeats f (r + 1) false
     rising-apart r x i j lt inside same = let up = x .rises i j lt (omega arith) in omega (arith, up, same)
 
+    pub between-starts : (apart : ℕ) (r : Bool) → Repeats f (apart + 1) false → Repeats f (n + 1) r → r ≡ true → Between f n apart n
+    between-starts apart r differ told is = record { most = omega arith; apart = differ; again = subst (λ b. Repeats f (n + 1) b) is told }
+
     module _ (low high : ℕ) (x : Between f n low high) where
       pub between-less : low < high
       between-less =

@@ -1,38 +1,44 @@
+-- `behind` meets its contract. Assumes nothing.
+use Prim.Native.Nat.{_+_}
+use native.Mathlib.Omega.{arith}
+use mathlib.Core.Path.{subst}
+use Rattle.order.specs.Repeat.{Repeats}
+use Rattle.chains.specs.Frames.{framesAt}
+use Rattle.chains.proofs.FirstRepeats.{none-repeated, between-starts}
+use Rattle.chains.proofs.ListedChain.{ends-again, chain-short}
 use borrow.Author.Needs.{needs}
 use Rattle.chains.proofs.frames.behind.Statement.{statement}
 use Rattle.chains.proofs.frames.behind.Tie as tie
-use Rattle.chains.proofs.frames.behind.Reads as reads
-use Rattle.chains.proofs.frames.behind.Lts as lts
-use Rattle.chains.proofs.frames.between.Reads as between-reads
-use Rattle.chains.proofs.frames.repeated.Reads as repeated-reads
 
--- src/frames.rt:90:8
 repeated-requires : tie.Need-repeated-requires
 repeated-requires c κs = search needs
 
--- src/frames.rt:91:9
 between-requires : tie.Need-between-requires
-between-requires c κs = ?
+between-requires c κs =
+    let start = c .before .before .before .before .before .before .before .before .before in
+    let call = c .before .before .before .before .repeated in
+    (ends-again (start .args .s .now) (start .args .b) (start .args .slots .now) (start .args .track) _ _ (start .pre .0) (call .ensures .1), (omega (arith, start .pre .1 .0), between-starts (framesAt (start .args .s .now) (start .args .b) (start .args .track)) (start .args .n) (start .args .apart) (call .result) (start .pre .1 .1) (call .ensures .0) (c .before .if1 .taken)))
 
--- src/frames.rt:91:9
 same-length : tie.Need-same-length
 same-length c = search needs
 
--- src/frames.rt:91:9
 returns : tie.Need-returns
 returns c = search needs
 
--- src/frames.rt:93:5
 add-result : tie.Need-add-result
-add-result c = ?
+add-result c =
+    let start = c .before .before .before .before .before .before .before .before in
+    let short = chain-short (start .args .s .now) (start .args .b) (start .args .slots .now) (start .args .track) _ (start .pre .0) in
+    omega (arith, short, start .pre .1 .0, start .good)
 
--- src/frames.rt:83:1
 same-length-2 : tie.Need-same-length-2
 same-length-2 c = search needs
 
--- src/frames.rt:83:1
 returns-2 : tie.Need-returns-2
-returns-2 c = ?
+returns-2 c =
+    let start = c .before .before .before .before .before .before .before .before in
+    let call = c .before .before .before .repeated in
+    (none-repeated (framesAt (start .args .s .now) (start .args .b) (start .args .track)) (start .args .n + 1) (subst (λ r. Repeats (framesAt (start .args .s .now) (start .args .b) (start .args .track)) (start .args .n + 1) r) (c .if1 .left) (call .ensures .0)), call .ensures .1)
 
 pub behind-spec : {M : Type 1} → statement M
 behind-spec =

@@ -1,5 +1,6 @@
 -- `list_again` meets its contract. Assumes nothing.
-use Rattle.chains.proofs.ChainFrames.{walked-again}
+use Rattle.chains.proofs.ListedChain.{walked-again}
+-- `list_again` meets its contract. Assumes nothing.
 use borrow.Author.Needs.{needs}
 use Rattle.chains.proofs.frames.list_again.Statement.{statement}
 use Rattle.chains.proofs.frames.list_again.Tie as tie

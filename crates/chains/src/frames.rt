@@ -1,5 +1,4 @@
-// 11: which key of a track is the first whose frame an earlier key has. Key 0 is the initial record's, key i + 1 that of the record listed
-// at i.
+// 11: the first key of a track whose frame an earlier key has. Key 0 is the initial record's, key i + 1 that of the record listed at i.
 ghost use mathlib.Core.Path.{_≡_};
 ghost use mathlib.Core.Bool.{false};
 ghost use Prim.Native.Nat.{_+_, _<_, _≤_};
@@ -15,7 +14,7 @@ use crate::walk;
 use order::field::Field;
 use order::repeats;
 
-// How many records have frames that rise from the initial record's on.
+// The last key up to which frames rise.
 fn rising(s: &[u8], b: Block, track: usize, list: &[u16], n: usize) -> usize
     requires { ⌜ Fits (now s) b ⌝ }
     requires { ⌜ track < b .initials .count ⌝ }
@@ -36,7 +35,7 @@ fn rising(s: &[u8], b: Block, track: usize, list: &[u16], n: usize) -> usize
     n
 }
 
-// The chain is listed, whatever the list held.
+// The chain at the front of the list, whatever the list held.
 fn list_again(s: &[u8], b: Block, slots: &[u16], track: usize, list: &mut [u16])
     requires { ⌜ Ends (now s) b (now slots) track (length (now list)) ⌝ }
     ensures { λ _. ⌜ take (length (chainAt (now (s .entry)) b track)) (now (list .exit)) ≡ chainAt (now (s .entry)) b track ⌝ }
@@ -45,21 +44,33 @@ fn list_again(s: &[u8], b: Block, slots: &[u16], track: usize, list: &mut [u16])
     walk::walk(s, b, slots, track, list);
 }
 
-// Whether two keys up to that of the last of so many records have equal frames. The list is in another order afterwards.
-fn repeated(s: &[u8], b: Block, slots: &[u16], track: usize, list: &mut [u16], records: usize) -> bool
+// Whether two of keys 0 to `last` have equal frames. The list is in another order afterwards.
+fn repeated(s: &[u8], b: Block, slots: &[u16], track: usize, list: &mut [u16], last: usize) -> bool
     requires { ⌜ Ends (now s) b (now slots) track (length (now list)) ⌝ }
-    requires { ⌜ records ≤ length (chainAt (now s) b track) ⌝ }
-    ensures { λ r. ⌜ Repeats (framesAt (now (s .entry)) b track) (records + 1) r ⌝ }
+    requires { ⌜ last ≤ length (chainAt (now s) b track) ⌝ }
+    ensures { λ r. ⌜ Repeats (framesAt (now (s .entry)) b track) (last + 1) r ⌝ }
     ensures { λ _. ⌜ length (now (list .exit)) ≡ length (now (list .entry)) ⌝ }
 {
     list_again(s, b, slots, track, list);
     let first = block::first_frame(s, b, track);
-    let frames = Field { first: b.records.first + 4, width: b.records.width, count: b.records.count };
-    repeats::repeats(s, frames, &mut list[0..records], first)
+    let frames = Field {
+        first: b.records.first + 4,
+        width: b.records.width,
+        count: b.records.count,
+    };
+    repeats::repeats(s, frames, &mut list[0..last], first)
 }
 
-// The first repeat stands behind the record at `apart` and not behind the one at n.
-fn between(s: &[u8], b: Block, slots: &[u16], track: usize, list: &mut [u16], apart: usize, n: usize) -> usize
+// The first repeat, where keys 0 to `apart` have different frames and keys 0 to n have not.
+fn between(
+    s: &[u8],
+    b: Block,
+    slots: &[u16],
+    track: usize,
+    list: &mut [u16],
+    apart: usize,
+    n: usize,
+) -> usize
     requires { ⌜ Ends (now s) b (now slots) track (length (now list)) ⌝ }
     requires { ⌜ n ≤ length (chainAt (now s) b track) ⌝ }
     requires { ⌜ Between (framesAt (now s) b track) n apart n ⌝ }
@@ -79,8 +90,16 @@ fn between(s: &[u8], b: Block, slots: &[u16], track: usize, list: &mut [u16], ap
     high
 }
 
-// The frames up to that of the record at `apart` are known to differ.
-fn behind(s: &[u8], b: Block, slots: &[u16], track: usize, list: &mut [u16], apart: usize, n: usize) -> usize
+// The first repeat, where keys 0 to `apart` have different frames.
+fn behind(
+    s: &[u8],
+    b: Block,
+    slots: &[u16],
+    track: usize,
+    list: &mut [u16],
+    apart: usize,
+    n: usize,
+) -> usize
     requires { ⌜ Ends (now s) b (now slots) track (length (now list)) ⌝ }
     requires { ⌜ n ≡ length (chainAt (now s) b track) ⌝ }
     requires { ⌜ Repeats (framesAt (now s) b track) (apart + 1) false ⌝ }
@@ -93,9 +112,16 @@ fn behind(s: &[u8], b: Block, slots: &[u16], track: usize, list: &mut [u16], apa
     n + 1
 }
 
-// The number of keys where no frame is repeated. Where frames rise, one pass tells that; else the list is put in order by frames, and
-// where there is a repeat once for each halving, and the chain listed again before each use and at the end.
-pub fn first_repeated_frame(s: &[u8], b: Block, slots: &[u16], track: usize, list: &mut [u16], n: usize) -> usize
+// The number of keys if no frame is repeated. Frames that rise cost one pass, others one sort of the list, and a repeated frame one more
+// for each halving. Sorting loses the chain, which is listed again before each use and at the end.
+pub fn first_repeated_frame(
+    s: &[u8],
+    b: Block,
+    slots: &[u16],
+    track: usize,
+    list: &mut [u16],
+    n: usize,
+) -> usize
     requires { ⌜ Ordered (now s) b (now slots) ⌝ }
     requires { ⌜ track < b .initials .count ⌝ }
     requires { ⌜ b .records .count ≤ length (now list) ⌝ }

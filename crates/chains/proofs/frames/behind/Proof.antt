@@ -2,11 +2,11 @@
 use Prim.Native.Nat.{_+_}
 use native.Mathlib.Omega.{arith}
 use mathlib.Core.Path.{subst}
+use borrow.Author.Needs.{needs}
 use Rattle.order.specs.Repeat.{Repeats}
 use Rattle.chains.specs.Frames.{framesAt}
-use Rattle.chains.proofs.FirstRepeats.{none-repeated, between-starts}
 use Rattle.chains.proofs.ListedChain.{ends-again, chain-short}
-use borrow.Author.Needs.{needs}
+use Rattle.chains.proofs.FirstRepeats.{none-repeated, between-starts}
 use Rattle.chains.proofs.frames.behind.Statement.{statement}
 use Rattle.chains.proofs.frames.behind.Tie as tie
 

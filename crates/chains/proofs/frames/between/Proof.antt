@@ -1,11 +1,10 @@
--- `between` meets its contract. Assumes nothing.
-use Rattle.chains.proofs.ListedChain.{ends-again}
--- `between` meets its contract. Assumes nothing.
+-- `between` meets its contract: keys 0 to `low` have different frames, keys 0 to `high` have not. Assumes nothing.
 use Prim.Native.Nat.{_-_}
 use native.Mathlib.Omega.{arith}
 use mathlib.Core.Path.{_≡_, refl, _∙_}
 use lib.ListN.{length}
 use Rattle.chains.specs.Frames.{framesAt, Between}
+use Rattle.chains.proofs.ListedChain.{ends-again}
 use Rattle.chains.proofs.FirstRepeats.{between-less, between-down, between-up, between-ends}
 use Rattle.chains.proofs.frames.between.Statement.{statement}
 use Rattle.chains.proofs.frames.between.Tie as tie

@@ -1,16 +1,16 @@
--- `first_repeated_frame` meets its contract. Assumes nothing.
+-- `first_repeated_frame` meets its contract: the chain is back in the list where the list was sorted. Assumes nothing.
 use Prim.Native.Nat.{ℕ, _+_}
 use mathlib.Core.Bool.{false}
 use mathlib.Core.List.{List}
 use mathlib.Core.Path.{refl, sym, _∙_, subst}
+use borrow.Author.Needs.{needs}
 use lib.ListN.{take}
 use Rattle.order.specs.Repeat.{FirstRepeat, Repeats}
 use Rattle.chains.specs.Block.{links}
 use Rattle.chains.specs.Tracks.{framesOf}
 use Rattle.chains.specs.Frames.{Rising}
-use Rattle.chains.proofs.FirstRepeats.{none-repeated, rising-apart}
 use Rattle.chains.proofs.ListedChain.{ends-again, listed-is, listed-ends, listed-many, listed-same}
-use borrow.Author.Needs.{needs}
+use Rattle.chains.proofs.FirstRepeats.{none-repeated, rising-apart}
 use Rattle.chains.proofs.frames.first_repeated_frame.Statement.{statement}
 use Rattle.chains.proofs.frames.first_repeated_frame.Tie as tie
 

@@ -1,7 +1,6 @@
--- `list_again` meets its contract. Assumes nothing.
-use Rattle.chains.proofs.ListedChain.{walked-again}
--- `list_again` meets its contract. Assumes nothing.
+-- `list_again` meets its contract: the walk lists the chain. Assumes nothing.
 use borrow.Author.Needs.{needs}
+use Rattle.chains.proofs.ListedChain.{walked-again}
 use Rattle.chains.proofs.frames.list_again.Statement.{statement}
 use Rattle.chains.proofs.frames.list_again.Tie as tie
 

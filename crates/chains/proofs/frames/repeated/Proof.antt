@@ -1,11 +1,9 @@
--- `repeated` meets its contract. Assumes nothing.
-use Rattle.chains.proofs.ChainFrames.{frame-field, front-below, front-once, front-repeats}
-use Rattle.chains.proofs.ListedChain.{chain-short}
--- `repeated` meets its contract. Assumes nothing.
+-- `repeated` meets its contract: the records of a chain are distinct, and their frames are a field of theirs. Assumes nothing.
 use Prim.Native.Nat.{_-_}
--- `repeated` meets its contract. Assumes nothing.
 use native.Mathlib.Omega.{arith}
 use borrow.Author.Needs.{needs}
+use Rattle.chains.proofs.ListedChain.{chain-short}
+use Rattle.chains.proofs.ChainFrames.{frame-field, front-below, front-once, front-repeats}
 use Rattle.chains.proofs.frames.repeated.Statement.{statement}
 use Rattle.chains.proofs.frames.repeated.Tie as tie
 
@@ -34,7 +32,7 @@ repeats-requires : tie.Need-repeats-requires
 repeats-requires c κs =
     let start = c .before .before .before .before .before .before .before .before .before .before in
     let is = c .before .before .before .before .before .list-again .ensures .0 in
-    (frame-field (start .args .s .now) (start .args .b) (start .pre .0 .ordered .fits), (front-below (start .args .s .now) (start .args .b) (start .args .slots .now) (start .args .track) _ (start .pre .0) _ is (start .args .records - 0) (omega (arith, start .pre .1)), front-once (start .args .s .now) (start .args .b) (start .args .slots .now) (start .args .track) _ (start .pre .0) _ is (start .args .records - 0) (omega (arith, start .pre .1))))
+    (frame-field (start .args .s .now) (start .args .b) (start .pre .0 .ordered .fits), (front-below (start .args .s .now) (start .args .b) (start .args .slots .now) (start .args .track) _ (start .pre .0) _ is (start .args .last - 0) (omega (arith, start .pre .1)), front-once (start .args .s .now) (start .args .b) (start .args .slots .now) (start .args .track) _ (start .pre .0) _ is (start .args .last - 0) (omega (arith, start .pre .1))))
 
 same-length : tie.Need-same-length
 same-length c = search needs
@@ -43,7 +41,7 @@ returns : tie.Need-returns
 returns c =
     let start = c .before .before .before .before .before .before .before .before .before .before .before .before .before in
     let is = c .before .before .before .before .before .before .before .before .list-again .ensures .0 in
-    (front-repeats (start .args .s .now) (start .args .b) (start .args .slots .now) (start .args .track) _ (start .pre .0) _ is (start .args .records - 0) (omega (arith, start .pre .1)) (start .args .records) (omega arith) (c .before .before .before .before .before .first-frame .result) (c .before .before .before .before .before .first-frame .ensures) (c .before .before .repeats .result) (c .before .before .repeats .ensures .0), search needs)
+    (front-repeats (start .args .s .now) (start .args .b) (start .args .slots .now) (start .args .track) _ (start .pre .0) _ is (start .args .last - 0) (omega (arith, start .pre .1)) (start .args .last) (omega arith) (c .before .before .before .before .before .first-frame .result) (c .before .before .before .before .before .first-frame .ensures) (c .before .before .repeats .result) (c .before .before .repeats .ensures .0), search needs)
 
 pub repeated-spec : {M : Type 1} → statement M
 repeated-spec =

@@ -1,17 +1,14 @@
--- `rising` meets its contract: the frames of the records passed rise. Assumes nothing.
-use Rattle.chains.proofs.ChainFrames.{rising-record}
-use Rattle.chains.proofs.ListedChain.{listed-below}
--- `rising` meets its contract: the frames of the records passed rise. Assumes nothing.
-use mathlib.Core.Path.{_≡_, subst}
--- `rising` meets its contract: the frames of the records passed rise. Assumes nothing.
+-- `rising` meets its contract: the frames of the keys passed rise. Assumes nothing.
 use Prim.Native.Nat.{_-_}
-use borrow.Author.Needs.{needs}
 use native.Mathlib.Omega.{arith}
-use mathlib.Core.Path.{_≡_}
+use mathlib.Core.Path.{_≡_, subst}
+use borrow.Author.Needs.{needs}
 use lib.ListN.{take}
 use Rattle.chains.specs.Block.{links}
 use Rattle.chains.specs.Tracks.{framesOf}
 use Rattle.chains.specs.Frames.{Rising}
+use Rattle.chains.proofs.ListedChain.{listed-below}
+use Rattle.chains.proofs.ChainFrames.{rising-record}
 use Rattle.chains.proofs.FirstRepeats.{rising-starts}
 use Rattle.chains.proofs.frames.rising.Statement.{statement}
 use Rattle.chains.proofs.frames.rising.Tie as tie

@@ -5,3 +5,4 @@ pub mod Fault
 pub mod Tracks
 pub mod Ready
 pub mod Scan
+pub mod Frames

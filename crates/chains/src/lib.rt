@@ -2,6 +2,7 @@
 // code serves bones and morphs, whose additional records begin with the same four numbers.
 pub mod block;
 pub mod fault;
+pub mod frames;
 pub mod key;
 pub mod lookup;
 pub mod ready;

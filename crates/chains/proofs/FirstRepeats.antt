@@ -2,7 +2,7 @@
 use Prim.Native.Nat.{ℕ, suc, _+_, _≤_, _<_}
 use native.Mathlib.Omega.{arith}
 use mathlib.Core.Bool.{Bool, true, false}
-use mathlib.Core.Path.{_≡_, refl, sym, ap, _∙_, subst}
+use mathlib.Core.Path.{_≡_, sym, ap, _∙_, subst}
 use Rattle.order.specs.Repeat.{FirstRepeat, Repeats}
 use Rattle.order.proofs.Times.{equal-or-not}
 use Rattle.chains.specs.Frames.{Rising, Between}

@@ -1,31 +1,30 @@
+-- `mark` meets its contract. Assumes nothing.
+use Rattle.marks.specs.Marks.{countsWith}
+use lib.ListN.{replicate}
+use mathlib.Core.Path.{ap, _∙_}
+use Prim.Native.Nat.{ℕ}
 use borrow.Author.Needs.{needs}
 use Rattle.marks.proofs.mark.mark.Statement.{statement}
 use Rattle.marks.proofs.mark.mark.Tie as tie
-use Rattle.marks.proofs.mark.mark.Reads as reads
-use Rattle.marks.proofs.mark.mark.Lts as lts
-use Rattle.marks.proofs.counts.count.Reads as count-reads
-use Rattle.marks.proofs.mark.clear.Reads as clear-reads
-use Rattle.marks.proofs.mark.mark_tracks.Reads as mark-tracks-reads
 
--- src/mark.rt:78:5
 clear-requires : tie.Need-clear-requires
 clear-requires c κs = search needs
 
--- src/mark.rt:79:9
 mark-tracks-requires : tie.Need-mark-tracks-requires
-mark-tracks-requires c κs = ?
+mark-tracks-requires c κs =
+    let start = c .before .before .before .before .before .before .before .before in
+    (start .pre .0, (start .pre .1 .0, c .before .before .before .clear .ensures ∙ ap (λ (n : ℕ). replicate n 0) (start .pre .1 .1)))
 
--- src/mark.rt:80:5
 count-requires : tie.Need-count-requires
 count-requires c κs = search needs
 
--- src/mark.rt:71:1
 same-length : tie.Need-same-length
 same-length c = search needs
 
--- src/mark.rt:71:1
 returns : tie.Need-returns
-returns c = ?
+returns c =
+    let start = c .before .before .before .before .before .before .before .before .before .before .before .before .before in
+    (c .before .before .before .before .mark-tracks .ensures .0, c .count .ensures ∙ ap (countsWith (start .args .s .now) (start .args .b)) (c .before .before .before .before .mark-tracks .ensures .1))
 
 pub mark-spec : {M : Type 1} → statement M
 mark-spec =

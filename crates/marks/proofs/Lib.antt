@@ -1,0 +1,6 @@
+pub mod Each
+pub mod Cleared
+pub mod Marking
+pub mod Following
+pub mod Passing
+pub mod Unreached

@@ -1,0 +1,109 @@
+-- `count` meets its contract. Assumes nothing.
+use Rattle.marks.proofs.Unreached.{Counted, starts, below, done, passes, takes, leaves}
+use Rattle.marks.proofs.Marking.{zero-mark, some-mark}
+use Rattle.marks.proofs.Each.{length-each, each-at}
+use Rattle.chains.specs.Block.{kindOf, links}
+use Rattle.strip.specs.Work.{trackMark}
+use lib.ListN.{length, getD}
+use mathlib.Core.Path.{sym, ap, _∙_}
+use mathlib.Core.Logic.{⊎-elim}
+use mathlib.Core.List.{List}
+use native.Mathlib.Omega.{arith}
+use Prim.Native.Nat.{ℕ, _-_}
+use Rattle.marks.proofs.counts.count.Statement.{statement}
+use Rattle.marks.proofs.counts.count.Tie as tie
+
+abbrev Inv-loop : tie.InvT-loop
+Inv-loop s b marks reached disconnected₀ loose₀ p₀ disconnected loose p = Counted (kindOf (b .kind)) (links s b) disconnected loose p
+
+abbrev μ-loop : tie.MeasureT-loop
+μ-loop s b marks reached disconnected₀ loose₀ p₀ disconnected loose p = b .records .count - p
+
+loop-holds : tie.Need-loop-holds Inv-loop μ-loop
+loop-holds c =
+    let start = c .before .before in
+    starts (kindOf (start .args .b .kind)) (links (start .args .s .now) (start .args .b))
+
+mul-if2 : tie.Need-mul-if2 Inv-loop μ-loop
+mul-if2 c =
+    let start = c .before .before .before .before .before in
+    let less = c .if1 .taken in
+    let few = start .pre .0 .fewRecords in
+    omega (arith, less, few)
+
+shared-slice-read-if2 : tie.Need-shared-slice-read-if2 Inv-loop μ-loop
+shared-slice-read-if2 c =
+    let start = c .before .before .before .before .before .before in
+    let long = ap length (start .pre .1) ∙ length-each (trackMark (kindOf (start .args .b .kind)) (links (start .args .s .now) (start .args .b))) (start .args .b .records .count) in
+    let less = c .before .if1 .taken in
+    omega (arith, less, long)
+
+unlinked-requires : tie.Need-unlinked-requires Inv-loop μ-loop
+unlinked-requires c κs = (c .before .before .before .before .before .before .before .pre .0, c .before .before .if1 .taken)
+
+add-loose : tie.Need-add-loose Inv-loop μ-loop
+add-loose c =
+    let start = c .before .before .before .before .before .before .before .before .before in
+    let loop = c .before .before .before .before .before .before .loop in
+    let less = c .before .before .before .before .if1 .taken in
+    let few = start .pre .0 .fewRecords in
+    let so-far = below (kindOf (start .args .b .kind)) (links (start .args .s .now) (start .args .b)) (loop .disconnected) (loop .loose) (loop .p) (loop .inv) .1 in
+    omega (arith, less, few, so-far)
+
+add-disconnected : tie.Need-add-disconnected Inv-loop μ-loop
+add-disconnected c =
+    let start = c .before .before .before .before .before .before .before .before .before in
+    let loop = c .before .before .before .before .before .before .loop in
+    let less = c .before .before .before .before .if1 .taken in
+    let few = start .pre .0 .fewRecords in
+    let so-far = below (kindOf (start .args .b .kind)) (links (start .args .s .now) (start .args .b)) (loop .disconnected) (loop .loose) (loop .p) (loop .inv) .0 in
+    omega (arith, less, few, so-far)
+
+add-p : tie.Need-add-p Inv-loop μ-loop
+add-p c =
+    let start = c .before .before .before .before .before .before .before in
+    let less = c .before .before .if1 .taken in
+    let few = start .pre .0 .fewRecords in
+    omega (arith, less, few)
+
+loop-less : tie.Need-loop-less Inv-loop μ-loop
+loop-less c =
+    let less = c .before .before .if1 .taken in
+    omega (arith, less)
+
+loop-again : tie.Need-loop-again Inv-loop μ-loop
+loop-again c =
+    let start = c .before .before .before .before .before .before .before in
+    let loop = c .before .before .before .before .loop in
+    let inside = c .before .before .if1 .taken in
+    let mark = ap (λ (l : List ℕ). getD l (loop .p) 0) (start .pre .1) ∙ each-at (trackMark (kindOf (start .args .b .kind)) (links (start .args .s .now) (start .args .b))) (start .args .b .records .count) (loop .p) inside in
+    ⊎-elim
+    (λ w. rw (w .3, w .4) (takes (kindOf (start .args .b .kind)) (links (start .args .s .now) (start .args .b)) (loop .disconnected) (loop .loose) (loop .p) (loop .inv) inside (zero-mark (kindOf (start .args .b .kind)) (links (start .args .s .now) (start .args .b)) (loop .p) (sym mark ∙ w .0 .taken)) (sym (w .1 .ensures) ∙ w .2 .taken)))
+    (⊎-elim
+    (λ w. rw (w .3, w .4) (leaves (kindOf (start .args .b .kind)) (links (start .args .s .now) (start .args .b)) (loop .disconnected) (loop .loose) (loop .p) (loop .inv) inside (zero-mark (kindOf (start .args .b .kind)) (links (start .args .s .now) (start .args .b)) (loop .p) (sym mark ∙ w .0 .taken)) (sym (w .1 .ensures) ∙ w .2 .left)))
+    (λ w. rw (w .1, w .2) (passes (kindOf (start .args .b .kind)) (links (start .args .s .now) (start .args .b)) (loop .disconnected) (loop .loose) (loop .p) (loop .inv) inside (some-mark (kindOf (start .args .b .kind)) (links (start .args .s .now) (start .args .b)) (loop .p) (λ e. w .0 .left (mark ∙ e))))))
+    (c .if2 .came)
+
+returns : tie.Need-returns Inv-loop μ-loop
+returns c =
+    let start = c .before .before .before .before .before in
+    let loop = c .before .before .loop in
+    let all = done (kindOf (start .args .b .kind)) (links (start .args .s .now) (start .args .b)) (loop .disconnected) (loop .loose) (loop .p) (loop .inv) (c .if1 .left) in
+    rw (all .0, all .1)
+
+pub count-spec : {M : Type 1} → statement M
+count-spec =
+    tie.close
+    (tie.spec
+    Inv-loop
+    μ-loop
+    loop-holds
+    mul-if2
+    shared-slice-read-if2
+    unlinked-requires
+    add-loose
+    add-disconnected
+    add-p
+    loop-less
+    loop-again
+    returns)

@@ -1,0 +1,52 @@
+-- What each answer says in document 01's terms. Definitions only.
+use Prim.Native.Nat.{ℕ, _+_}
+use mathlib.Core.List.{List, [], _∷_, _++_}
+use mathlib.Core.Option.{Option, none, some}
+use mathlib.Core.Path.{_≡_}
+use lib.IntN.{pos}
+use Rattle.layout.specs.Walk.{Refusal, refusal, Answer, answered, declined}
+use Rattle.binary.specs.Answers.{because}
+use Rattle.section.specs.declared.model.Model.{Model}
+use Rattle.clip.specs.Fields.{bone, morph}
+use Rattle.clip.specs.Build.{buildRefusal, linksFollowed, loose}
+use Rattle.clip.specs.Section.{clipRefusal, reachedRecords, looseRecords}
+use Rattle.strip.specs.Work.{each, byIndex, trackMark, firstWork, secondWork}
+use Rattle.strip.specs.Call.{Built}
+use Rattle.chains.specs.Block.{kindOf, links}
+use Rattle.chains.specs.Fault.{faultOf}
+use Rattle.chains.specs.Lookup.{Ordered}
+use Rattle.chains.specs.Tracks.{testAt, AllEnd}
+use Rattle.chains.specs.declared.block.Block.{Block}
+use Rattle.chains.specs.declared.fault.Fault.{Fault}
+use Rattle.strip_call.specs.declared.answer.BuiltKind.{BuiltKind}
+use Rattle.strip_call.specs.declared.answer.BuiltClip.{BuiltClip}
+use Rattle.strip_call.specs.declared.answer.StripRefusal.{StripRefusal}
+use Rattle.strip_call.specs.declared.answer.Strip.{Strip}
+
+-- What a build of one kind meets.
+abbrev pub kindMeets : List ℕ → Block → Option Refusal
+kindMeets s b = buildRefusal (kindOf (b .kind)) (testAt s b) (links s b)
+
+-- Nothing is met, and the work slices hold what 01 says.
+pub record Passed (s : List ℕ) (b : Block) (slots marks : List ℕ) (reached looseOnes : ℕ) : Type 0 where
+  pub meets : kindMeets s b ≡ none
+  pub ordered : Ordered s b slots
+  pub ends : AllEnd s b
+  pub marked : marks ≡ each (b .records .count) (trackMark (kindOf (b .kind)) (links s b))
+  pub followed : reached ≡ linksFollowed (kindOf (b .kind)) (links s b)
+  pub unreached : looseOnes ≡ loose (kindOf (b .kind)) (links s b)
+
+abbrev pub Builds : List ℕ → Block → List ℕ → List ℕ → BuiltKind → Type 0
+Builds s b slots marks (BuiltKind.Refused fault) = kindMeets s b ≡ some (faultOf (kindOf (b .kind)) (b .initials .count) fault)
+Builds s b slots marks (BuiltKind.Counted reached looseOnes) = Passed s b slots marks reached looseOnes
+
+abbrev pub refusalRead : StripRefusal → Refusal
+refusalRead (StripRefusal.Reading why) = because why
+refusalRead (StripRefusal.Bones count fault) = faultOf bone count fault
+refusalRead (StripRefusal.Morphs count fault) = faultOf morph count fault
+refusalRead (StripRefusal.WorkTooShort need) = refusal 17 (pos need ∷ [])
+refusalRead (StripRefusal.OutputTooShort length) = refusal 18 (pos length ∷ [])
+
+abbrev pub stripRead : Strip → Answer Built
+stripRead (Strip.Built length reached looseOnes) = answered (record { length = length; reached = reached; loose = looseOnes })
+stripRead (Strip.Refused why) = declined (refusalRead why)

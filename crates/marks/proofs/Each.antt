@@ -1,7 +1,7 @@
 -- Laws of f 0, .., f (n - 1) as a list (strip, specs/Work.antt). Assumes nothing.
-use Prim.Native.Nat.{ℕ, zero, suc, _+_, _<_}
+use Prim.Native.Nat.{ℕ, zero, suc, _<_}
 use native.Mathlib.Omega.{arith}
-use mathlib.Core.List.{List, [], _∷_, _++_}
+use mathlib.Core.List.{List, [], _∷_}
 use mathlib.Core.Path.{_≡_, refl, sym, ap, _∙_}
 use lib.ListN.{length, getD, length-append, List·getD-append}
 use lib.Seq.{getD-at, ext-getD}

@@ -2,8 +2,8 @@
 use Prim.Native.Nat.{ℕ, _+_, _≤_, _<_}
 use native.Mathlib.Omega.{arith}
 use mathlib.Core.List.{List, [], _∷_}
-use mathlib.Core.Option.{Option, none, some}
-use mathlib.Core.Path.{_≡_, refl, sym, ap, _∙_, subst}
+use mathlib.Core.Option.{none, some}
+use mathlib.Core.Path.{_≡_, refl, sym, _∙_}
 use lib.ListN.{length, set, length-set}
 use Rattle.layout.specs.Walk.{answered}
 use Rattle.clip.specs.Fields.{Records, Kind}
@@ -32,26 +32,27 @@ module _ {B : Type 0} (kind : Kind) (r : Records B) (track : ℕ) where
     pub same : length marks ≡ length marks₀
     pub to-mark : marked (track + 1) (chainOf kind r track) marks₀ ≡ marked (track + 1) rest marks
 
-module _ {B : Type 0} (kind : Kind) (r : Records B) (x : Indexed r) (track : ℕ) (is-track : track < r .tracks) (all-ends : chain kind r track ≡ answered (chainOf kind r track)) where
+module _ {B : Type 0} (kind : Kind) (r : Records B) (track : ℕ) (x : Indexed r) (is-track : track < r .tracks) (all-ends : chain kind r track ≡ answered (chainOf kind r track)) where
   whole : Chained r track (r .initial track .next) (chainOf kind r track)
   whole = is-chain kind r track (chainOf kind r track) all-ends
 
   pub few : length (chainOf kind r track) ≤ r .additional
   few = distinct-length (r .additional) (chainOf kind r track) (no-repeats r x track is-track (r .initial track .next) (chainOf kind r track) whole) (all-below r (chainOf kind r track) track (r .initial track .next) whole)
 
-  module _ (marks₀ : List ℕ) where
-    pub begins : (link : ℕ) → link ≡ r .initial track .next → Following kind r track marks₀ marks₀ link 0
-    begins link is =
+module _ {B : Type 0} {kind : Kind} {r : Records B} {track : ℕ} (x : Indexed r) (is-track : track < r .tracks) (all-ends : chain kind r track ≡ answered (chainOf kind r track)) where
+  module _ {marks₀ : List ℕ} where
+    pub begins : {link : ℕ} → link ≡ r .initial track .next → Following kind r track marks₀ marks₀ link 0
+    begins is =
         record {
           rest = chainOf kind r track;
           expected = track;
-          chained = rw is whole;
+          chained = rw is (whole kind r track x is-track all-ends);
           many = omega arith;
           same = refl;
           to-mark = refl;
         }
 
-    module _ (marks : List ℕ) (link n : ℕ) (g : Following kind r track marks₀ marks link n) where
+    module _ {marks : List ℕ} {link n : ℕ} (g : Following kind r track marks₀ marks link n) where
       pub ends : link ≡ 0 → (marks ≡ marked (track + 1) (chainOf kind r track) marks₀) × (n ≡ length (chainOf kind r track))
       ends zero-link = go (g .rest) (g .chained) (g .many) (g .to-mark)
         where
@@ -72,10 +73,10 @@ module _ {B : Type 0} (kind : Kind) (r : Records B) (x : Indexed r) (track : ℕ
           where
             go : (rest : List ℕ) → Chained r (g .expected) link rest → n + length rest ≡ length (chainOf kind r track) → n < r .additional
             go [] c many = absurd (on c)
-            go (p ∷ ps) c many = let most = few in omega (arith, many, most)
+            go (p ∷ ps) c many = let most = few kind r track x is-track all-ends in omega (arith, many, most)
 
-        pub goes-on : (p : ℕ) → recordOf r link ≡ some p → (next : ℕ) → next ≡ r .at p .next → Following kind r track marks₀ (set marks p (track + 1)) next (n + 1)
-        goes-on p is next to = go (g .rest) (g .chained) (g .many) (g .to-mark)
+        pub goes-on : {p next : ℕ} → recordOf r link ≡ some p → next ≡ r .at p .next → Following kind r track marks₀ (set marks p (track + 1)) next (n + 1)
+        goes-on {p} {next} is to = go (g .rest) (g .chained) (g .many) (g .to-mark)
           where
             go : (rest : List ℕ) → Chained r (g .expected) link rest → n + length rest ≡ length (chainOf kind r track) → marked (track + 1) (chainOf kind r track) marks₀ ≡ marked (track + 1) rest marks → Following kind r track marks₀ (set marks p (track + 1)) next (n + 1)
             go [] c many left = absurd (on c)

@@ -1,8 +1,8 @@
 -- The marks of one chain, and of the tracks, one by one: a record of a chain is in no chain before. Assumes nothing.
-use Prim.Native.Nat.{ℕ, zero, suc, _+_, _<_}
+use Prim.Native.Nat.{ℕ, suc, _+_, _<_}
 use native.Mathlib.Numerals.{add-one}
 use native.Mathlib.Omega.{arith}
-use mathlib.Core.Bool.{Bool, true, false, _||_}
+use mathlib.Core.Bool.{Bool, true, false}
 use mathlib.Core.List.{List, [], _∷_}
 use mathlib.Core.Option.{Option, none, some}
 use mathlib.Core.Path.{_≡_, refl, sym, ap, _∙_, subst}
@@ -10,7 +10,7 @@ use borrow.Author.Tests.{eqb-true, eqb-false}
 use lib.Dec.{eqb}
 use lib.ListN.{length, getD, set, length-set, replicate, length-replicate, getD-replicate}
 use lib.Seq.{getD-set-same, getD-set-other}
-use Rattle.clip.specs.First.{given, _or_, first, any, member}
+use Rattle.clip.specs.First.{given, _or_, first, member}
 use Rattle.clip.specs.Fields.{Records, Kind}
 use Rattle.clip.specs.Build.{chainOf, reachedBefore, reached}
 use Rattle.clip.proofs.First.{or-true, or-false, contrary, none-first, none-given, given-none, given-some, first-none, first-some, any-false, false-any, true-any}

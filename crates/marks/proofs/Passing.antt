@@ -3,7 +3,7 @@ use Prim.Native.Nat.{ℕ, _+_, _*_, _≤_, _<_}
 use native.Mathlib.Numerals.{add-one}
 use native.Mathlib.Omega.{arith}
 use mathlib.Core.List.{List}
-use mathlib.Core.Path.{_≡_, refl, sym, ap, _∙_, subst}
+use mathlib.Core.Path.{_≡_, refl, ap, _∙_, subst}
 use lib.ListN.{length, replicate}
 use Rattle.layout.specs.Walk.{answered}
 use Rattle.clip.specs.Fields.{Records, Kind}
@@ -25,11 +25,12 @@ module _ {B : Type 0} (kind : Kind) (r : Records B) where
     pub followed : reached ≡ total track (λ t. length (chainOf kind r t))
     pub are : marks ≡ each (r .additional) (markBefore kind r track)
 
-  pub no-track : (marks : List ℕ) → marks ≡ replicate (r .additional) 0 → Passing marks 0 0
+module _ {B : Type 0} {kind : Kind} {r : Records B} where
+  pub no-track : {marks : List ℕ} → marks ≡ replicate (r .additional) 0 → Passing kind r marks 0 0
   unfolding total
-  no-track marks is = record { within = omega arith; most = omega arith; followed = refl; are = is ∙ none-marked kind r }
+  no-track is = record { within = omega arith; most = omega arith; followed = refl; are = is ∙ none-marked kind r }
 
-  module _ (marks : List ℕ) (reached track : ℕ) (p : Passing marks reached track) where
+  module _ {marks : List ℕ} {reached track : ℕ} (p : Passing kind r marks reached track) where
     pub as-many : length marks ≡ r .additional
     as-many = ap length (p .are) ∙ length-each (markBefore kind r track) (r .additional)
 
@@ -40,13 +41,13 @@ module _ {B : Type 0} (kind : Kind) (r : Records B) where
         let same : track ≡ r .tracks = omega (arith, all, within) in
         (subst (λ (k : ℕ). marks ≡ each (r .additional) (markBefore kind r k)) same (p .are) ∙ all-marked kind r, subst (λ (k : ℕ). reached ≡ total k (λ t. length (chainOf kind r t))) same (p .followed))
 
-    module _ (x : Indexed r) (limit : r .additional ≤ 65534) (is-track : track < r .tracks) (ends : chain kind r track ≡ answered (chainOf kind r track)) (n : ℕ) (links : n ≡ length (chainOf kind r track)) where
+    module _ (x : Indexed r) (limit : r .additional ≤ 65534) (is-track : track < r .tracks) (ends : chain kind r track ≡ answered (chainOf kind r track)) {n : ℕ} (links : n ≡ length (chainOf kind r track)) where
       pub few-links : n ≤ 65534
-      few-links = let most = few kind r x track is-track ends in omega (arith, most, limit, links)
+      few-links = let most = few kind r track x is-track ends in omega (arith, most, limit, links)
 
-      pub one-track : (marks′ : List ℕ) → marks′ ≡ marked (track + 1) (chainOf kind r track) marks → Passing marks′ (reached + n) (track + 1)
+      pub one-track : {marks′ : List ℕ} → marks′ ≡ marked (track + 1) (chainOf kind r track) marks → Passing kind r marks′ (reached + n) (track + 1)
       unfolding total
-      one-track marks′ is =
+      one-track is =
           let so-far = p .most in
           record {
             within = omega (arith, is-track);

@@ -20,9 +20,7 @@ abbrev μ-loop : tie.MeasureT-loop
 μ-loop s b marks reached disconnected₀ loose₀ p₀ disconnected loose p = b .records .count - p
 
 loop-holds : tie.Need-loop-holds Inv-loop μ-loop
-loop-holds c =
-    let start = c .before .before in
-    starts (kindOf (start .args .b .kind)) (links (start .args .s .now) (start .args .b))
+loop-holds c = starts
 
 mul-if2 : tie.Need-mul-if2 Inv-loop μ-loop
 mul-if2 c =
@@ -44,19 +42,17 @@ unlinked-requires c κs = (c .before .before .before .before .before .before .be
 add-loose : tie.Need-add-loose Inv-loop μ-loop
 add-loose c =
     let start = c .before .before .before .before .before .before .before .before .before in
-    let loop = c .before .before .before .before .before .before .loop in
     let less = c .before .before .before .before .if1 .taken in
     let few = start .pre .0 .fewRecords in
-    let so-far = below (kindOf (start .args .b .kind)) (links (start .args .s .now) (start .args .b)) (loop .disconnected) (loop .loose) (loop .p) (loop .inv) .1 in
+    let so-far = below (c .before .before .before .before .before .before .loop .inv) .1 in
     omega (arith, less, few, so-far)
 
 add-disconnected : tie.Need-add-disconnected Inv-loop μ-loop
 add-disconnected c =
     let start = c .before .before .before .before .before .before .before .before .before in
-    let loop = c .before .before .before .before .before .before .loop in
     let less = c .before .before .before .before .if1 .taken in
     let few = start .pre .0 .fewRecords in
-    let so-far = below (kindOf (start .args .b .kind)) (links (start .args .s .now) (start .args .b)) (loop .disconnected) (loop .loose) (loop .p) (loop .inv) .0 in
+    let so-far = below (c .before .before .before .before .before .before .loop .inv) .0 in
     omega (arith, less, few, so-far)
 
 add-p : tie.Need-add-p Inv-loop μ-loop
@@ -76,19 +72,19 @@ loop-again c =
     let start = c .before .before .before .before .before .before .before in
     let loop = c .before .before .before .before .loop in
     let inside = c .before .before .if1 .taken in
+    let zero = zero-mark (kindOf (start .args .b .kind)) (links (start .args .s .now) (start .args .b)) (loop .p) in
+    let some = some-mark (kindOf (start .args .b .kind)) (links (start .args .s .now) (start .args .b)) (loop .p) in
     let mark = ap (λ (l : List ℕ). getD l (loop .p) 0) (start .pre .1) ∙ each-at (trackMark (kindOf (start .args .b .kind)) (links (start .args .s .now) (start .args .b))) (start .args .b .records .count) (loop .p) inside in
     ⊎-elim
-    (λ w. rw (w .3, w .4) (takes (kindOf (start .args .b .kind)) (links (start .args .s .now) (start .args .b)) (loop .disconnected) (loop .loose) (loop .p) (loop .inv) inside (zero-mark (kindOf (start .args .b .kind)) (links (start .args .s .now) (start .args .b)) (loop .p) (sym mark ∙ w .0 .taken)) (sym (w .1 .ensures) ∙ w .2 .taken)))
+    (λ w. rw (w .3, w .4) (takes (loop .inv) inside (zero (sym mark ∙ w .0 .taken)) (sym (w .1 .ensures) ∙ w .2 .taken)))
     (⊎-elim
-    (λ w. rw (w .3, w .4) (leaves (kindOf (start .args .b .kind)) (links (start .args .s .now) (start .args .b)) (loop .disconnected) (loop .loose) (loop .p) (loop .inv) inside (zero-mark (kindOf (start .args .b .kind)) (links (start .args .s .now) (start .args .b)) (loop .p) (sym mark ∙ w .0 .taken)) (sym (w .1 .ensures) ∙ w .2 .left)))
-    (λ w. rw (w .1, w .2) (passes (kindOf (start .args .b .kind)) (links (start .args .s .now) (start .args .b)) (loop .disconnected) (loop .loose) (loop .p) (loop .inv) inside (some-mark (kindOf (start .args .b .kind)) (links (start .args .s .now) (start .args .b)) (loop .p) (λ e. w .0 .left (mark ∙ e))))))
+    (λ w. rw (w .3, w .4) (leaves (loop .inv) inside (zero (sym mark ∙ w .0 .taken)) (sym (w .1 .ensures) ∙ w .2 .left)))
+    (λ w. rw (w .1, w .2) (passes (loop .inv) inside (some (λ e. w .0 .left (mark ∙ e))))))
     (c .if2 .came)
 
 returns : tie.Need-returns Inv-loop μ-loop
 returns c =
-    let start = c .before .before .before .before .before in
-    let loop = c .before .before .loop in
-    let all = done (kindOf (start .args .b .kind)) (links (start .args .s .now) (start .args .b)) (loop .disconnected) (loop .loose) (loop .p) (loop .inv) (c .if1 .left) in
+    let all = done (c .before .before .loop .inv) (c .if1 .left) in
     rw (all .0, all .1)
 
 pub count-spec : {M : Type 1} → statement M

@@ -38,7 +38,7 @@ first-link-requires c κs =
 loop-holds : tie.Need-loop-holds Inv-loop μ-loop
 loop-holds c =
     let start = c .before .before .before .before in
-    begins (kindOf (start .args .b .kind)) (links (start .args .s .now) (start .args .b)) (start .pre .0 .indexed) (start .args .track) (start .pre .1 .1 .0) (start .pre .1 .0 (start .args .track) (start .pre .1 .1 .0)) (start .args .marks .now) (c .first-link .result) (c .first-link .ensures)
+    begins (start .pre .0 .indexed) (start .pre .1 .1 .0) (start .pre .1 .0 (start .args .track) (start .pre .1 .1 .0)) (c .first-link .ensures)
 
 lookup-requires : tie.Need-lookup-requires Inv-loop μ-loop
 lookup-requires c κs = c .before .before .before .before .before .before .pre .0
@@ -53,7 +53,7 @@ returns : tie.Need-returns Inv-loop μ-loop
 returns c =
     let start = c .before .before .before .before .before .before .before .before .before in
     let loop = c .before .before .before .before .loop in
-    never-absent (kindOf (start .args .b .kind)) (links (start .args .s .now) (start .args .b)) (start .pre .0 .indexed) (start .args .track) (start .pre .1 .1 .0) (start .pre .1 .0 (start .args .track) (start .pre .1 .1 .0)) (start .args .marks .now) (loop .marks) (loop .link) (loop .n) (loop .inv) (c .before .before .before .loop-test .taken) (sym (c .before .before .lookup .ensures) ∙ ap foundRead (c .enum-told .given .1))
+    never-absent (start .pre .0 .indexed) (start .pre .1 .1 .0) (start .pre .1 .0 (start .args .track) (start .pre .1 .1 .0)) (loop .inv) (c .before .before .before .loop-test .taken) (sym (c .before .before .lookup .ensures) ∙ ap foundRead (c .enum-told .given .1))
 
 enum-known-p : tie.Need-enum-known-p Inv-loop μ-loop
 enum-known-p c = search needs
@@ -79,7 +79,7 @@ add-n : tie.Need-add-n Inv-loop μ-loop
 add-n c =
     let start = c .before .before .before .before .before .before .before .before .before .before in
     let loop = c .before .before .before .before .before .loop in
-    let less = room (kindOf (start .args .b .kind)) (links (start .args .s .now) (start .args .b)) (start .pre .0 .indexed) (start .args .track) (start .pre .1 .1 .0) (start .pre .1 .0 (start .args .track) (start .pre .1 .1 .0)) (start .args .marks .now) (loop .marks) (loop .link) (loop .n) (loop .inv) (c .before .before .before .before .loop-test .taken) in
+    let less = room (start .pre .0 .indexed) (start .pre .1 .1 .0) (start .pre .1 .0 (start .args .track) (start .pre .1 .1 .0)) (loop .inv) (c .before .before .before .before .loop-test .taken) in
     let few = start .pre .0 .fits .fewRecords in
     omega (arith, less, few)
 
@@ -94,14 +94,14 @@ loop-less : tie.Need-loop-less Inv-loop μ-loop
 loop-less c =
     let start = c .before .before .before .before .before .before .before .before .before .before .before in
     let loop = c .before .before .before .before .before .before .loop in
-    let less = room (kindOf (start .args .b .kind)) (links (start .args .s .now) (start .args .b)) (start .pre .0 .indexed) (start .args .track) (start .pre .1 .1 .0) (start .pre .1 .0 (start .args .track) (start .pre .1 .1 .0)) (start .args .marks .now) (loop .marks) (loop .link) (loop .n) (loop .inv) (c .before .before .before .before .before .loop-test .taken) in
+    let less = room (start .pre .0 .indexed) (start .pre .1 .1 .0) (start .pre .1 .0 (start .args .track) (start .pre .1 .1 .0)) (loop .inv) (c .before .before .before .before .before .loop-test .taken) in
     omega (arith, less)
 
 loop-again : tie.Need-loop-again Inv-loop μ-loop
 loop-again c =
     let start = c .before .before .before .before .before .before .before .before .before .before .before in
     let loop = c .before .before .before .before .before .before .loop in
-    goes-on (kindOf (start .args .b .kind)) (links (start .args .s .now) (start .args .b)) (start .pre .0 .indexed) (start .args .track) (start .pre .1 .1 .0) (start .pre .1 .0 (start .args .track) (start .pre .1 .1 .0)) (start .args .marks .now) (loop .marks) (loop .link) (loop .n) (loop .inv) (c .before .before .before .before .before .loop-test .taken) (c .before .before .p .given .0 .0) (sym (c .before .before .before .before .lookup .ensures) ∙ ap foundRead (c .before .before .p .given .1)) (c .next-at .result) (c .next-at .ensures)
+    goes-on (start .pre .0 .indexed) (start .pre .1 .1 .0) (start .pre .1 .0 (start .args .track) (start .pre .1 .1 .0)) (loop .inv) (c .before .before .before .before .before .loop-test .taken) (sym (c .before .before .before .before .lookup .ensures) ∙ ap foundRead (c .before .before .p .given .1)) (c .next-at .ensures)
 
 same-length-2 : tie.Need-same-length-2 Inv-loop μ-loop
 same-length-2 c = c .before .loop .inv .same
@@ -110,7 +110,7 @@ returns-2 : tie.Need-returns-2 Inv-loop μ-loop
 returns-2 c =
     let start = c .before .before .before .before .before .before in
     let loop = c .before .loop in
-    ends (kindOf (start .args .b .kind)) (links (start .args .s .now) (start .args .b)) (start .pre .0 .indexed) (start .args .track) (start .pre .1 .1 .0) (start .pre .1 .0 (start .args .track) (start .pre .1 .1 .0)) (start .args .marks .now) (loop .marks) (loop .link) (loop .n) (loop .inv) (c .loop-test .left)
+    ends (start .pre .0 .indexed) (start .pre .1 .1 .0) (start .pre .1 .0 (start .args .track) (start .pre .1 .1 .0)) (loop .inv) (c .loop-test .left)
 
 pub mark-chain-spec : {M : Type 1} → statement M
 mark-chain-spec =

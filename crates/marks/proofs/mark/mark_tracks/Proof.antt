@@ -15,21 +15,18 @@ abbrev μ-loop : tie.MeasureT-loop
 μ-loop s b slots marks₀ reached₀ track₀ marks reached track = b .initials .count - track
 
 loop-holds : tie.Need-loop-holds Inv-loop μ-loop
-loop-holds c =
-    let start = c .before .before .before in
-    no-track (kindOf (start .args .b .kind)) (links (start .args .s .now) (start .args .b)) (start .args .marks .now) (start .pre .1 .1)
+loop-holds c = no-track (c .before .before .before .pre .1 .1)
 
 mark-chain-requires : tie.Need-mark-chain-requires Inv-loop μ-loop
 mark-chain-requires c κs =
     let start = c .before .before .before .before .before .before .before in
-    let loop = c .before .before .before .loop in
-    (start .pre .0, (start .pre .1 .0, (c .before .if1 .taken, as-many (kindOf (start .args .b .kind)) (links (start .args .s .now) (start .args .b)) (loop .marks) (loop .reached) (loop .track) (loop .inv))))
+    (start .pre .0, (start .pre .1 .0, (c .before .if1 .taken, as-many (c .before .before .before .loop .inv))))
 
 add-reached : tie.Need-add-reached Inv-loop μ-loop
 add-reached c =
     let start = c .before .before .before .before .before .before .before .before .before .before in
     let loop = c .before .before .before .before .before .before .loop in
-    let more = few-links (kindOf (start .args .b .kind)) (links (start .args .s .now) (start .args .b)) (loop .marks) (loop .reached) (loop .track) (loop .inv) (start .pre .0 .indexed) (start .pre .0 .fits .fewRecords) (c .before .before .before .before .if1 .taken) (start .pre .1 .0 (loop .track) (c .before .before .before .before .if1 .taken)) (c .before .before .mark-chain .result) (c .before .before .mark-chain .ensures .1) in
+    let more = few-links (loop .inv) (start .pre .0 .indexed) (start .pre .0 .fits .fewRecords) (c .before .before .before .before .if1 .taken) (start .pre .1 .0 (loop .track) (c .before .before .before .before .if1 .taken)) (c .before .before .mark-chain .ensures .1) in
     let most = loop .inv .most in
     let within = loop .inv .within in
     let few = start .pre .0 .fits .fewTracks in
@@ -52,19 +49,15 @@ loop-again : tie.Need-loop-again Inv-loop μ-loop
 loop-again c =
     let start = c .before .before .before .before .before .before .before .before .before .before in
     let loop = c .before .before .before .before .before .before .loop in
-    one-track (kindOf (start .args .b .kind)) (links (start .args .s .now) (start .args .b)) (loop .marks) (loop .reached) (loop .track) (loop .inv) (start .pre .0 .indexed) (start .pre .0 .fits .fewRecords) (c .before .before .before .before .if1 .taken) (start .pre .1 .0 (loop .track) (c .before .before .before .before .if1 .taken)) (c .before .before .mark-chain .result) (c .before .before .mark-chain .ensures .1) _ (c .before .before .mark-chain .ensures .0)
+    one-track (loop .inv) (start .pre .0 .indexed) (start .pre .0 .fits .fewRecords) (c .before .before .before .before .if1 .taken) (start .pre .1 .0 (loop .track) (c .before .before .before .before .if1 .taken)) (c .before .before .mark-chain .ensures .1) (c .before .before .mark-chain .ensures .0)
 
 same-length : tie.Need-same-length Inv-loop μ-loop
 same-length c =
     let start = c .before .before .before .before .before .before in
-    let loop = c .before .before .loop in
-    as-many (kindOf (start .args .b .kind)) (links (start .args .s .now) (start .args .b)) (loop .marks) (loop .reached) (loop .track) (loop .inv) ∙ sym (ap length (start .pre .1 .1) ∙ length-replicate (start .args .b .records .count) 0)
+    as-many (c .before .before .loop .inv) ∙ sym (ap length (start .pre .1 .1) ∙ length-replicate (start .args .b .records .count) 0)
 
 returns : tie.Need-returns Inv-loop μ-loop
-returns c =
-    let start = c .before .before .before .before .before .before in
-    let loop = c .before .before .loop in
-    all-tracks (kindOf (start .args .b .kind)) (links (start .args .s .now) (start .args .b)) (loop .marks) (loop .reached) (loop .track) (loop .inv) (c .if1 .left)
+returns c = all-tracks (c .before .before .loop .inv) (c .if1 .left)
 
 pub mark-tracks-spec : {M : Type 1} → statement M
 mark-tracks-spec =

@@ -1,22 +1,29 @@
+-- `record_length` meets its contract. Assumes nothing.
+use native.Mathlib.Omega.{arith}
+use Rattle.clip.specs.Section.{additionalAt}
+use Rattle.clip.specs.Build.{recordKey}
+use Rattle.chains.specs.Block.{links}
+use Rattle.chains.proofs.Places.{record-fits}
+use Rattle.writing.proofs.OfKind.{length-is}
 use borrow.Author.Needs.{needs}
 use Rattle.writing.proofs.key.record_length.Statement.{statement}
 use Rattle.writing.proofs.key.record_length.Tie as tie
-use Rattle.writing.proofs.key.record_length.Reads as reads
-use Rattle.writing.proofs.key.record_length.Lts as lts
-use Rattle.chains.proofs.block.body_at.Reads as body-at-reads
-use Rattle.writing.proofs.key.key_length.Reads as key-length-reads
 
--- src/key.rt:78:9
 body-at-requires : tie.Need-body-at-requires
 body-at-requires c κs = search needs
 
--- src/key.rt:79:5
 key-length-requires : tie.Need-key-length-requires
-key-length-requires c κs = ?
+unfolding additionalAt
+key-length-requires c κs =
+    let start = c .before .before in
+    let at = c .body-at .ensures in
+    let fits = record-fits (start .args .s .now) (start .args .b) (start .pre .0) (start .args .p) (start .pre .1) in
+    omega (arith, at, fits)
 
--- src/key.rt:72:1
 returns : tie.Need-returns
-returns c = ?
+returns c =
+    let start = c .before .before .before in
+    length-is (start .args .s .now) (start .args .b .kind) (recordKey (links (start .args .s .now) (start .args .b) .at (start .args .p))) _ _ (c .before .body-at .ensures) (c .key-length .ensures)
 
 pub record-length-spec : {M : Type 1} → statement M
 record-length-spec = tie.close (tie.spec body-at-requires key-length-requires returns)

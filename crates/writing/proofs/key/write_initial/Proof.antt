@@ -1,31 +1,37 @@
+-- `write_initial` meets its contract. Assumes nothing.
+use native.Mathlib.Omega.{arith}
+use Rattle.clip.specs.Section.{initialAt}
+use Rattle.clip.specs.Build.{initialKey}
+use Rattle.chains.specs.Block.{links}
+use Rattle.chains.proofs.Places.{initial-fits}
+use Rattle.writing.proofs.OfKind.{key-is}
 use borrow.Author.Needs.{needs}
 use Rattle.writing.proofs.key.write_initial.Statement.{statement}
 use Rattle.writing.proofs.key.write_initial.Tie as tie
-use Rattle.writing.proofs.key.write_initial.Reads as reads
-use Rattle.writing.proofs.key.write_initial.Lts as lts
-use Rattle.chains.proofs.block.first_body.Reads as first-body-reads
-use Rattle.chains.proofs.block.first_frame.Reads as first-frame-reads
-use Rattle.writing.proofs.key.write_key.Reads as write-key-reads
 
--- src/key.rt:66:9
 first-body-requires : tie.Need-first-body-requires
 first-body-requires c κs = search needs
 
--- src/key.rt:67:9
 first-frame-requires : tie.Need-first-frame-requires
 first-frame-requires c κs = search needs
 
--- src/key.rt:68:5
 write-key-requires : tie.Need-write-key-requires
-write-key-requires c κs = ?
+unfolding initialAt
+write-key-requires c κs =
+    let start = c .before .before .before .before .before in
+    let at = c .before .before .first-body .ensures in
+    let fits = initial-fits (start .args .s .now) (start .args .b) (start .pre .0) (start .args .track) (start .pre .1 .0) in
+    let key = key-is (initialKey (links (start .args .s .now) (start .args .b) .initial (start .args .track))) _ _ at (c .before .first-frame .ensures) in
+    (omega (arith, at, fits), rw key (start .pre .1 .1))
 
--- src/key.rt:53:1
 same-length : tie.Need-same-length
 same-length c = search needs
 
--- src/key.rt:53:1
 returns : tie.Need-returns
-returns c = ?
+returns c =
+    let start = c .before .before .before .before .before .before .before .before in
+    let key = key-is (initialKey (links (start .args .s .now) (start .args .b) .initial (start .args .track))) _ _ (c .before .before .before .before .before .first-body .ensures) (c .before .before .before .before .first-frame .ensures) in
+    rw (← key) (c .before .before .write-key .ensures)
 
 pub write-initial-spec : {M : Type 1} → statement M
 write-initial-spec =

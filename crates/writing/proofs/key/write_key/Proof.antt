@@ -1,42 +1,49 @@
+-- `write_key` meets its contract. Assumes nothing.
+use Rattle.chains.specs.declared.block.Kind.{Kind}
+use Prim.Native.Nat.{_+_, _≤_}
+use mathlib.Core.Path.{subst}
+use lib.ListN.{length}
+use Rattle.chains.specs.Block.{bodySize}
+use Rattle.writing.proofs.OfKind.{bone-key, morph-key}
 use borrow.Author.Needs.{needs}
 use Rattle.writing.proofs.key.write_key.Statement.{statement}
 use Rattle.writing.proofs.key.write_key.Tie as tie
-use Rattle.writing.proofs.key.write_key.Reads as reads
-use Rattle.writing.proofs.key.write_key.Lts as lts
-use Rattle.keys.proofs.write.write_bone_key.Reads as write-bone-key-reads
-use Rattle.keys.proofs.write.write_morph_key.Reads as write-morph-key-reads
 
--- src/key.rt:37:59
 enum-told : tie.Need-enum-told
 enum-told c = search needs
 
--- src/key.rt:37:23
 write-bone-key-requires : tie.Need-write-bone-key-requires
-write-bone-key-requires c κs = ?
+write-bone-key-requires c κs =
+    let start = c .before .before .before .before .before in
+    let key = bone-key (start .args .s .now) (start .args .kind) (c .before .enum-told .given .1) (start .args .at) (start .args .frame) in
+    (subst (λ (k : Kind). start .args .at + bodySize k ≤ length (start .args .s .now)) (c .before .enum-told .given .1) (start .pre .0), rw key (start .pre .1))
 
--- src/key.rt:38:61
 enum-told-2 : tie.Need-enum-told-2
 enum-told-2 c = search needs
 
--- src/key.rt:38:24
 write-morph-key-requires : tie.Need-write-morph-key-requires
-write-morph-key-requires c κs = ?
+write-morph-key-requires c κs =
+    let start = c .before .before .before .before .before in
+    let key = morph-key (start .args .s .now) (start .args .kind) (c .before .enum-told2 .given .1) (start .args .at) (start .args .frame) in
+    (subst (λ (k : Kind). start .args .at + bodySize k ≤ length (start .args .s .now)) (c .before .enum-told2 .given .1) (start .pre .0), rw key (start .pre .1))
 
--- src/key.rt:24:1
 same-length : tie.Need-same-length
 same-length c = search needs
 
--- src/key.rt:24:1
 returns : tie.Need-returns
-returns c = ?
+returns c =
+    let start = c .before .before .before .before .before .before .before .before in
+    let key = bone-key (start .args .s .now) (start .args .kind) (c .before .before .before .before .enum-told .given .1) (start .args .at) (start .args .frame) in
+    rw (← key) (c .before .before .write-bone-key .ensures)
 
--- src/key.rt:24:1
 same-length-2 : tie.Need-same-length-2
 same-length-2 c = search needs
 
--- src/key.rt:24:1
 returns-2 : tie.Need-returns-2
-returns-2 c = ?
+returns-2 c =
+    let start = c .before .before .before .before .before .before .before .before in
+    let key = morph-key (start .args .s .now) (start .args .kind) (c .before .before .before .before .enum-told2 .given .1) (start .args .at) (start .args .frame) in
+    rw (← key) (c .before .before .write-morph-key .ensures)
 
 pub write-key-spec : {M : Type 1} → statement M
 write-key-spec =

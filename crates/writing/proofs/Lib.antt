@@ -1,0 +1,2 @@
+pub mod OfKind
+pub mod Following

@@ -1,2 +1,3 @@
 pub mod OfKind
 pub mod Following
+pub mod Sums

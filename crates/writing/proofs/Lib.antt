@@ -1,3 +1,5 @@
 pub mod OfKind
 pub mod Following
 pub mod Sums
+pub mod Measuring
+pub mod Filling

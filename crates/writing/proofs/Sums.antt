@@ -2,6 +2,7 @@
 use Prim.Native.Nat.{ℕ, zero, suc, _+_, _*_, _≤_, _<_}
 use native.Mathlib.Nat.{add-zero, zero-add, mul-suc}
 use native.Mathlib.Numerals.{add-one}
+use native.Mathlib.Decide.{ℕ-discrete}
 use native.Mathlib.Omega.{arith}
 use mathlib.Core.List.{List, [], _∷_, _++_, map, append-assoc, append-nil}
 use mathlib.Core.Path.{_≡_, refl, sym, ap, _∙_, subst}
@@ -44,6 +45,17 @@ module _ (s : List ℕ) (b : Block) where
   pub records-more : (ps : List ℕ) (n : ℕ) → n < length ps → recordsBytes s b (take (n + 1) ps) ≡ recordsBytes s b (take n ps) ++ recordBytes s b (getD ps n 0)
   records-more ps n lt = rw add-one (one-more ps n lt)
 
+  pub records-within : (ps : List ℕ) (n : ℕ) → length (recordsBytes s b (take n ps)) ≤ length (recordsBytes s b ps)
+  unfolding keysBytes
+  records-within [] zero = omega arith
+  records-within [] (suc n) = omega arith
+  records-within (p ∷ ps) zero = omega arith
+  records-within (p ∷ ps) (suc n) =
+      let short = length-append (recordBytes s b p) (recordsBytes s b (take n ps)) in
+      let long = length-append (recordBytes s b p) (recordsBytes s b ps) in
+      let rest = records-within ps n in
+      omega (arith, short, long, rest)
+
   pub records-most : (ps : List ℕ) → length (recordsBytes s b ps) ≤ 49 * length ps
   unfolding keysBytes
   records-most [] = omega arith
@@ -83,12 +95,21 @@ module _ (s : List ℕ) (b : Block) where
   pub first-more : (n : ℕ) → firstTracks s b (n + 1) ≡ firstTracks s b n ++ stripTrack s b n
   first-more n = rw add-one (tracks-more 2 (groupsOf (b .kind)) (fieldsAt s (b .kind)) (keysAt s b) n 0 ∙ rw (zero-add n))
 
+  next-track : (n : ℕ) → length (firstTracks s b (suc n)) ≡ length (firstTracks s b n) + length (stripTrack s b n)
+  next-track n = ap (λ (k : ℕ). length (firstTracks s b k)) (sym (add-one n)) ∙ ap (λ (bs : List ℕ). length bs) (first-more n) ∙ length-append (firstTracks s b n) (stripTrack s b n)
+
+  pub first-within : (m n : ℕ) → n ≤ m → length (firstTracks s b n) ≤ length (firstTracks s b m)
+  first-within zero n le = let none : n ≡ 0 = omega arith in rw none (omega arith)
+  first-within (suc m) n le = go (ℕ-discrete n (suc m)) (first-within m n)
+    where
+      go : Dec (n ≡ suc m) → (n ≤ m → length (firstTracks s b n) ≤ length (firstTracks s b m)) → length (firstTracks s b n) ≤ length (firstTracks s b (suc m))
+      go (yes e) before = rw e (omega arith)
+      go (no ne) before = let less = before (omega (arith, ne)) in let more = next-track m in omega (arith, less, more)
+
   pub first-most : (n : ℕ) → ((t : ℕ) → t < n → length (chainAt s b t) ≤ 65534) → length (firstTracks s b n) ≤ 4000000 * n
   first-most zero few = rw no-tracks (omega arith)
   first-most (suc n) few =
-      let more : firstTracks s b (suc n) ≡ firstTracks s b n ++ stripTrack s b n = ap (λ (k : ℕ). firstTracks s b k) (sym (add-one n)) ∙ first-more n in
-      let long = ap (λ (bs : List ℕ). length bs) more in
-      let sum = length-append (firstTracks s b n) (stripTrack s b n) in
+      let sum = next-track n in
       let one = track-most n (few n (omega arith)) in
       let rest = first-most n (λ t lt. few t (omega arith)) in
-      omega (arith, long, sum, one, rest)
+      omega (arith, sum, one, rest)

@@ -3,3 +3,4 @@ pub mod Following
 pub mod Sums
 pub mod Measuring
 pub mod Filling
+pub mod OneTrack

@@ -21,14 +21,7 @@ fn key_length(s: &[u8], kind: Kind, at: usize) -> usize
     }
 }
 
-fn write_key(
-    s: &[u8],
-    kind: Kind,
-    at: usize,
-    frame: u32,
-    output: &mut [u8],
-    place: usize,
-) -> usize
+fn write_key(s: &[u8], kind: Kind, at: usize, frame: u32, output: &mut [u8], place: usize) -> usize
     requires { ⌜ at + bodySize kind ≤ length (now s) ⌝ }
     requires { ⌜ Room place (keyAt (now s) kind (record { frame = frame; body = at })) (now output) ⌝ }
     ensures { λ r. ⌜ Wrote place (keyAt (now (s .entry)) kind (record { frame = frame; body = at })) (now (output .entry)) r (now (output .exit)) ⌝ }
@@ -50,13 +43,7 @@ pub fn initial_length(s: &[u8], b: Block, track: usize) -> usize
     key_length(s, kind, at)
 }
 
-pub fn write_initial(
-    s: &[u8],
-    b: Block,
-    track: usize,
-    output: &mut [u8],
-    place: usize,
-) -> usize
+pub fn write_initial(s: &[u8], b: Block, track: usize, output: &mut [u8], place: usize) -> usize
     requires { ⌜ Fits (now s) b ⌝ }
     requires { ⌜ track < b .initials .count ⌝ }
     requires { ⌜ Room place (initialBytes (now s) b track) (now output) ⌝ }

@@ -25,13 +25,7 @@ pub fn tracks_length(s: &[u8], b: Block, slots: &[u16]) -> usize
     bytes
 }
 
-pub fn write_tracks(
-    s: &[u8],
-    b: Block,
-    slots: &[u16],
-    output: &mut [u8],
-    place: usize,
-) -> usize
+pub fn write_tracks(s: &[u8], b: Block, slots: &[u16], output: &mut [u8], place: usize) -> usize
     requires { ⌜ Ordered (now s) b (now slots) ⌝ }
     requires { ⌜ AllEnd (now s) b ⌝ }
     requires { ⌜ Room place (stripTracks (now s) b) (now output) ⌝ }

@@ -1,44 +1,51 @@
+-- `write_track` meets its contract: count, initial key and the keys of the chain stand one behind the other. Assumes nothing.
+use native.Mathlib.Omega.{arith}
+use Rattle.writing.proofs.Following.{chain-most}
+use Rattle.writing.proofs.OneTrack.{count-room, initial-room, records-room, track-wrote}
 use borrow.Author.Needs.{needs}
 use Rattle.writing.proofs.track.write_track.Statement.{statement}
 use Rattle.writing.proofs.track.write_track.Tie as tie
-use Rattle.writing.proofs.track.write_track.Reads as reads
-use Rattle.writing.proofs.track.write_track.Lts as lts
-use Rattle.keys.proofs.write.write_count.Reads as write-count-reads
-use Rattle.writing.proofs.chain.measure.Reads as measure-reads
-use Rattle.writing.proofs.chain.write_records.Reads as write-records-reads
-use Rattle.writing.proofs.key.write_initial.Reads as write-initial-reads
 
--- src/track.rt:38:9
 measure-requires : tie.Need-measure-requires
 measure-requires c κs = search needs
 
--- src/track.rt:39:39
 add-write-count : tie.Need-add-write-count
-add-write-count c = ?
+add-write-count c =
+    let start = c .before .before .before .before .before .before in
+    let chain = c .before .before .measure in
+    let most = chain-most (start .args .s .now) (start .args .b) (start .args .slots .now) (start .pre .0) (start .pre .1 .0) (start .args .track) (start .pre .1 .1 .0) in
+    let is = chain .ensures .0 in
+    omega (arith, most, is)
 
--- src/track.rt:39:5
 write-count-requires : tie.Need-write-count-requires
-write-count-requires c κs = ?
+write-count-requires c κs =
+    let start = c .before .before .before .before .before .before in
+    let chain = c .before .before .measure in
+    count-room (start .args .s .now) (start .args .b) (start .args .track) (chain .result .records) (chain .ensures .0) (start .args .place) (start .args .output .now) (start .pre .1 .1 .1)
 
--- src/track.rt:40:56
 add-write-initial : tie.Need-add-write-initial
 add-write-initial c = search needs
 
--- src/track.rt:40:9
 write-initial-requires : tie.Need-write-initial-requires
-write-initial-requires c κs = ?
+write-initial-requires c κs =
+    let start = c .before .before .before .before .before .before .before .before .before .before in
+    let chain = c .before .before .before .before .before .before .measure in
+    (start .pre .0 .fits, (start .pre .1 .1 .0, initial-room (start .args .s .now) (start .args .b) (start .args .track) (chain .result .records) (chain .ensures .0) (start .args .place) (start .args .output .now) (start .pre .1 .1 .1) _ (c .before .before .before .write-count .ensures)))
 
--- src/track.rt:41:5
 write-records-requires : tie.Need-write-records-requires
-write-records-requires c κs = ?
+write-records-requires c κs =
+    let start = c .before .before .before .before .before .before .before .before .before .before .before .before .before .before in
+    let chain = c .before .before .before .before .before .before .before .before .before .before .measure in
+    (start .pre .0, (start .pre .1 .0, (start .pre .1 .1 .0, records-room (start .args .s .now) (start .args .b) (start .args .track) (chain .result .records) (chain .ensures .0) (start .args .place) (start .args .output .now) (start .pre .1 .1 .1) _ (c .before .before .before .before .before .before .before .write-count .ensures) _ _ (c .before .before .before .write-initial .ensures))))
 
--- src/track.rt:24:1
 same-length : tie.Need-same-length
 same-length c = search needs
 
--- src/track.rt:24:1
 returns : tie.Need-returns
-returns c = ?
+returns c =
+    let start = c .before .before .before .before .before .before .before .before .before .before .before .before .before .before .before .before .before in
+    let chain = c .before .before .before .before .before .before .before .before .before .before .before .before .before .measure in
+    track-wrote (start .args .s .now) (start .args .b) (start .args .track) (chain .result .records) (chain .ensures .0) (start .args .place) (start .args .output .now) (start .pre .1 .1 .1) _ (c .before .before .before .before .before .before .before .before .before .before .write-count .ensures) _ _ (c .before .before .before .before .before .before .write-initial .ensures) _ _ (c .before .before .write-records .ensures)
 
 pub write-track-spec : {M : Type 1} → statement M
 write-track-spec =

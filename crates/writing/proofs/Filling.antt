@@ -1,13 +1,13 @@
 -- What is written of a chain, and of the tracks, after some turns of a loop. Assumes nothing.
-use Prim.Native.Nat.{ℕ, suc, _+_, _≤_, _<_}
+use Prim.Native.Nat.{ℕ, _+_, _≤_, _<_}
 use native.Mathlib.Omega.{arith}
-use mathlib.Core.List.{List, [], _++_}
+use mathlib.Core.List.{List, _++_}
 use mathlib.Core.Option.{some}
-use mathlib.Core.Path.{_≡_, refl, sym, ap, _∙_, subst}
-use lib.ListN.{length, getD, take}
+use mathlib.Core.Path.{_≡_, sym, ap, _∙_, subst}
+use lib.ListN.{length, take}
 use lib.Seq.{take-length}
 use Rattle.clip.specs.Scan.{recordOf}
-use Rattle.keys.specs.Placed.{placed, Room, Wrote}
+use Rattle.keys.specs.Placed.{Room, Wrote}
 use Rattle.keys.proofs.Placing.{length-placed, room-back, wrote-then, wrote-none}
 use Rattle.chains.specs.Block.{links}
 use Rattle.chains.specs.Lookup.{Ordered}

@@ -1,17 +1,16 @@
 -- The way along a chain that ends: every link but 0 is borne by the next record of the chain. Assumes nothing.
-use Prim.Native.Nat.{ℕ, zero, suc, _+_, _≤_, _<_}
+use Prim.Native.Nat.{ℕ, suc, _+_, _≤_, _<_}
 use native.Mathlib.Numerals.{add-one}
-use native.Mathlib.Decide.{decLt}
 use native.Mathlib.Omega.{arith}
 use mathlib.Core.List.{List, [], _∷_}
-use mathlib.Core.Option.{Option, none, some}
+use mathlib.Core.Option.{none, some}
 use mathlib.Core.Path.{_≡_, refl, sym, ap, _∙_, subst}
 use lib.ListN.{length, getD, drop, length-drop}
 use lib.Seq.{drop-cons}
 use Rattle.clip.specs.Fields.{Records}
 use Rattle.clip.specs.Scan.{recordOf}
 use Rattle.clip.proofs.Counting.{distinct-length}
-use Rattle.clip.proofs.Indexed.{Indexed, of-record}
+use Rattle.clip.proofs.Indexed.{of-record}
 use Rattle.clip.proofs.Chained.{Chained, all-below, no-repeats}
 use Rattle.clip.proofs.Follow.{is-chain}
 use Rattle.chains.specs.Block.{kindOf, links}

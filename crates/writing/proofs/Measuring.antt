@@ -1,13 +1,13 @@
 -- What is measured of a chain, and of the tracks, after some turns of a loop. Assumes nothing.
-use Prim.Native.Nat.{ℕ, suc, _+_, _*_, _≤_, _<_}
+use Prim.Native.Nat.{ℕ, _+_, _≤_, _<_}
 use native.Mathlib.Omega.{arith}
-use mathlib.Core.List.{List, []}
-use mathlib.Core.Path.{_≡_, refl, sym, ap, _∙_, subst}
+use mathlib.Core.List.{List}
+use mathlib.Core.Option.{some}
+use mathlib.Core.Path.{_≡_, sym, ap, _∙_}
 use lib.ListN.{length, getD, take, length-append}
 use lib.Seq.{take-length, length-take-le}
 use Rattle.clip.specs.Build.{recordKey}
 use Rattle.clip.specs.Scan.{recordOf}
-use mathlib.Core.Option.{some}
 use Rattle.chains.specs.Block.{links}
 use Rattle.chains.specs.Lookup.{Ordered}
 use Rattle.chains.specs.Tracks.{AllEnd}

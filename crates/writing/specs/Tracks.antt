@@ -1,7 +1,6 @@
 -- Document 01, "The strip": the tracks of one kind in a strip, where a body is known by its offset in the section. Definitions only.
 use Prim.Native.Nat.{ℕ}
 use mathlib.Core.List.{List, map}
-use lib.ListN.{length}
 use Rattle.clip.specs.Keys.{Key}
 use Rattle.clip.specs.Build.{initialKey, recordKey, chainOf, keys}
 use Rattle.clip.specs.Section.{boneBody, morphBody}

@@ -34,6 +34,7 @@ fn position(s: &[u8], b: Block, slots: &[u16], link: u32) -> usize
     }
 }
 
+// The chain of a track, without its initial record.
 pub fn measure(s: &[u8], b: Block, slots: &[u16], track: usize) -> Measured
     requires { ⌜ Ordered (now s) b (now slots) ⌝ }
     requires { ⌜ AllEnd (now s) b ⌝ }
@@ -53,6 +54,7 @@ pub fn measure(s: &[u8], b: Block, slots: &[u16], track: usize) -> Measured
     Measured { records, bytes }
 }
 
+// The records written are counted because no chain has more of them than there are: that is why the loop ends.
 pub fn write_records(
     s: &[u8],
     b: Block,

@@ -1,6 +1,6 @@
-// Document 01, modules 5 and 6: the strip call. A model section is read, its clip built, and the strip written; the two work slices stand in for
-// the Rust's maps and sets.
+// Document 01, modules 5 and 6: the strip call. A model section is read, its clip built, and the strip written; the two work slices stand in
+// for the Rust's maps and sets.
 pub mod answer;
-pub mod blocks;
-pub mod build;
-pub mod clip;
+mod blocks;
+mod build;
+mod clip_build;

@@ -1,0 +1,82 @@
+// The records of a track's chain, one by one along its links. The chain ends, so every link but 0 is borne.
+ghost use mathlib.Core.Option.{some};
+ghost use mathlib.Core.Path.{_≡_};
+ghost use Prim.Native.Nat.{_<_};
+ghost use lib.ListN.{length};
+ghost use Rattle.clip.specs.Scan.{recordOf};
+ghost use Rattle.keys.specs.Placed.{Room, Wrote};
+ghost use Rattle.chains.specs.Block.{links};
+ghost use Rattle.chains.specs.Lookup.{Ordered};
+ghost use Rattle.chains.specs.Tracks.{AllEnd};
+ghost use Rattle.writing.specs.Tracks.{chainAt, recordsBytes};
+ghost use Rattle.writing.specs.Along.{Borne};
+use crate::key;
+use chains::block;
+use chains::block::Block;
+use chains::lookup;
+use chains::lookup::Found;
+
+// How many records a chain has, and how many bytes their keys have.
+pub struct Measured {
+    pub records: usize,
+    pub bytes: usize,
+}
+
+// The record that bears a link.
+fn position(s: &[u8], b: Block, slots: &[u16], link: u32) -> usize
+    requires { ⌜ Ordered (now s) b (now slots) ⌝ }
+    requires { ⌜ Borne (now s) b link ⌝ }
+    ensures { λ r. ⌜ recordOf (links (now (s .entry)) b) link ≡ some r ⌝ }
+{
+    match lookup::lookup(s, b, slots, link) {
+        Found::At(p) => p,
+        Found::Absent => 0,
+    }
+}
+
+// The chain of a track, without its initial record.
+pub fn measure(s: &[u8], b: Block, slots: &[u16], track: usize) -> Measured
+    requires { ⌜ Ordered (now s) b (now slots) ⌝ }
+    requires { ⌜ AllEnd (now s) b ⌝ }
+    requires { ⌜ track < b .initials .count ⌝ }
+    ensures { λ r. ⌜ r .records ≡ length (chainAt (now (s .entry)) b track) ⌝ }
+    ensures { λ r. ⌜ r .bytes ≡ length (recordsBytes (now (s .entry)) b (chainAt (now (s .entry)) b track)) ⌝ }
+{
+    let mut link = block::first_link(s, b, track);
+    let mut records: usize = 0;
+    let mut bytes: usize = 0;
+    while link != 0 {
+        let p = position(s, b, slots, link);
+        bytes = bytes + key::record_length(s, b, p);
+        records = records + 1;
+        link = block::next_at(s, b, p);
+    }
+    Measured { records, bytes }
+}
+
+// The records written are counted because no chain has more of them than there are: that is why the loop ends.
+pub fn write_records(
+    s: &[u8],
+    b: Block,
+    slots: &[u16],
+    track: usize,
+    output: &mut [u8],
+    place: usize,
+) -> usize
+    requires { ⌜ Ordered (now s) b (now slots) ⌝ }
+    requires { ⌜ AllEnd (now s) b ⌝ }
+    requires { ⌜ track < b .initials .count ⌝ }
+    requires { ⌜ Room place (recordsBytes (now s) b (chainAt (now s) b track)) (now output) ⌝ }
+    ensures { λ r. ⌜ Wrote place (recordsBytes (now (s .entry)) b (chainAt (now (s .entry)) b track)) (now (output .entry)) r (now (output .exit)) ⌝ }
+{
+    let mut link = block::first_link(s, b, track);
+    let mut records: usize = 0;
+    let mut here = place;
+    while link != 0 {
+        let p = position(s, b, slots, link);
+        here = key::write_record(s, b, p, output, here);
+        records = records + 1;
+        link = block::next_at(s, b, p);
+    }
+    here
+}

@@ -18,6 +18,7 @@ use Rattle.chains.specs.Lookup.{Ordered}
 use Rattle.chains.specs.Tracks.{testAt, AllEnd}
 use Rattle.chains.specs.declared.block.Block.{Block}
 use Rattle.chains.specs.declared.fault.Fault.{Fault}
+use Rattle.strip_call.specs.Parts.{part}
 use Rattle.strip_call.specs.declared.answer.BuiltKind.{BuiltKind}
 use Rattle.strip_call.specs.declared.answer.BuiltClip.{BuiltClip}
 use Rattle.strip_call.specs.declared.answer.StripRefusal.{StripRefusal}
@@ -50,3 +51,19 @@ refusalRead (StripRefusal.OutputTooShort length) = refusal 18 (pos length ∷ []
 abbrev pub stripRead : Strip → Answer Built
 stripRead (Strip.Built length reached looseOnes) = answered (record { length = length; reached = reached; loose = looseOnes })
 stripRead (Strip.Refused why) = declined (refusalRead why)
+
+-- The counts of both kinds, and the parts of the work slices that belong to each.
+pub record ClipPassed (s : List ℕ) (bones morphs : Block) (first second : List ℕ) (reached looseOnes : ℕ) : Type 0 where
+  pub boneReached : ℕ
+  pub boneLoose : ℕ
+  pub morphReached : ℕ
+  pub morphLoose : ℕ
+  pub ofBones : Passed s bones (part 0 (bones .records .count) first) (part 0 (bones .records .count) second) boneReached boneLoose
+  pub ofMorphs : Passed s morphs (part (bones .records .count) (morphs .records .count) first) (part (bones .records .count) (morphs .records .count) second) morphReached morphLoose
+  pub allReached : reached ≡ boneReached + morphReached
+  pub allLoose : looseOnes ≡ boneLoose + morphLoose
+
+abbrev pub ClipBuilds : List ℕ → Block → Block → List ℕ → List ℕ → BuiltClip → Type 0
+ClipBuilds s bones morphs first second (BuiltClip.Bones count fault) = kindMeets s bones ≡ some (faultOf (kindOf (bones .kind)) count fault)
+ClipBuilds s bones morphs first second (BuiltClip.Morphs count fault) = (kindMeets s bones ≡ none) × (kindMeets s morphs ≡ some (faultOf (kindOf (morphs .kind)) count fault))
+ClipBuilds s bones morphs first second (BuiltClip.Counted reached looseOnes) = ClipPassed s bones morphs first second reached looseOnes

@@ -1,3 +1,3 @@
 pub mod Blocks
-pub mod Answers
 pub mod Parts
+pub mod Answers

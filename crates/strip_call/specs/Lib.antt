@@ -1,3 +1,5 @@
 pub mod Blocks
 pub mod Parts
 pub mod Answers
+pub mod Bytes
+pub mod Outcomes

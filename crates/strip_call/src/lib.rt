@@ -3,4 +3,5 @@
 pub mod answer;
 mod blocks;
 mod build;
+mod bytes;
 mod clip_build;

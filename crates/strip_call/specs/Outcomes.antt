@@ -1,0 +1,64 @@
+-- The strip call's outcome from what its parts give. Definitions only.
+use Prim.Native.Nat.{ℕ, _+_}
+use mathlib.Core.Bool.{cond}
+use mathlib.Core.List.{List, [], _∷_, _++_}
+use mathlib.Core.Option.{Option, none, some}
+use mathlib.Core.Path.{_≡_}
+use lib.Dec.{ltb}
+use lib.IntN.{pos}
+use lib.ListN.{length}
+use Rattle.layout.specs.Walk.{Refusal, refusal, answered}
+use Rattle.clip.specs.First.{_or_}
+use Rattle.clip.specs.Build.{linksFollowed, loose}
+use Rattle.strip.specs.Work.{each, byIndex, trackMark}
+use Rattle.strip.specs.Call.{Outcome, over, zeroed}
+use Rattle.chains.specs.Block.{kindOf, links}
+use Rattle.chains.specs.declared.block.Block.{Block}
+use Rattle.strip_call.specs.Answers.{kindMeets, stripRead}
+use Rattle.strip_call.specs.Bytes.{stripBytes}
+use Rattle.strip_call.specs.declared.answer.Strip.{Strip}
+
+-- What is met, the strip, reached and loose, and the contents of the work slices.
+pub record Parts : Type 0 where
+  pub met : Option Refusal
+  pub strip : List ℕ
+  pub reached : ℕ
+  pub looseOnes : ℕ
+  pub firstWork : List ℕ
+  pub secondWork : List ℕ
+
+module _ (first second output : List ℕ) (need : ℕ) where
+  abbrev pub finished : Parts → Outcome
+  finished p =
+      cond (ltb (length output) (length (p .strip))) (zeroed first second output need (refusal 18 (pos (length (p .strip)) ∷ [])))
+      (record {
+         answer = answered (record { length = length (p .strip); reached = p .reached; loose = p .looseOnes });
+         first = over (p .firstWork) first;
+         second = over (p .secondWork) second;
+         output = over (p .strip) output;
+       })
+
+  abbrev pub outcomeBy : Option Refusal → Parts → Outcome
+  outcomeBy (some why) p = zeroed first second output need why
+  outcomeBy none p = finished p
+
+  abbrev pub outcomeOf : Parts → Outcome
+  outcomeOf p = outcomeBy (p .met) p
+
+abbrev pub partsOf : List ℕ → Block → Block → Parts
+partsOf s bones morphs =
+    record {
+      met = kindMeets s bones or kindMeets s morphs;
+      strip = stripBytes s bones morphs;
+      reached = linksFollowed (kindOf (bones .kind)) (links s bones) + linksFollowed (kindOf (morphs .kind)) (links s morphs);
+      looseOnes = loose (kindOf (bones .kind)) (links s bones) + loose (kindOf (morphs .kind)) (links s morphs);
+      firstWork = byIndex (links s bones) (bones .records .count) ++ byIndex (links s morphs) (morphs .records .count);
+      secondWork = each (bones .records .count) (trackMark (kindOf (bones .kind)) (links s bones)) ++ each (morphs .records .count) (trackMark (kindOf (morphs .kind)) (links s morphs));
+    }
+
+-- What a run leaves is what the outcome says.
+pub record Says (o : Outcome) (r : Strip) (first second output : List ℕ) : Type 0 where
+  pub answers : stripRead r ≡ o .answer
+  pub leavesFirst : first ≡ o .first
+  pub leavesSecond : second ≡ o .second
+  pub leavesOutput : output ≡ o .output

@@ -4,3 +4,4 @@ pub mod Clipped
 pub mod Pieces
 pub mod Cleared
 pub mod Same
+pub mod Ended

@@ -1,22 +1,24 @@
 -- The strip call's outcome from what its parts give. Definitions only.
-use Prim.Native.Nat.{ℕ, _+_}
+use Prim.Native.Nat.{ℕ, _+_, _≤_}
 use mathlib.Core.Bool.{cond}
 use mathlib.Core.List.{List, [], _∷_, _++_}
 use mathlib.Core.Option.{Option, none, some}
 use mathlib.Core.Path.{_≡_}
 use lib.Dec.{ltb}
 use lib.IntN.{pos}
-use lib.ListN.{length}
+use lib.ListN.{length, replicate}
 use Rattle.layout.specs.Walk.{Refusal, refusal, answered}
 use Rattle.clip.specs.First.{_or_}
 use Rattle.clip.specs.Build.{linksFollowed, loose}
 use Rattle.strip.specs.Work.{each, byIndex, trackMark}
 use Rattle.strip.specs.Call.{Outcome, over, zeroed}
-use Rattle.chains.specs.Block.{kindOf, links}
+use Rattle.chains.specs.Block.{Fits, kindOf, links}
 use Rattle.chains.specs.declared.block.Block.{Block}
+use Rattle.chains.specs.declared.block.Kind.{Kind}
 use Rattle.strip_call.specs.Answers.{kindMeets, stripRead}
 use Rattle.strip_call.specs.Bytes.{stripBytes}
 use Rattle.strip_call.specs.declared.answer.Strip.{Strip}
+use Rattle.strip_call.specs.declared.answer.StripRefusal.{StripRefusal}
 
 -- What is met, the strip, reached and loose, and the contents of the work slices.
 pub record Parts : Type 0 where
@@ -62,3 +64,19 @@ pub record Says (o : Outcome) (r : Strip) (first second output : List ℕ) : Typ
   pub leavesFirst : first ≡ o .first
   pub leavesSecond : second ≡ o .second
   pub leavesOutput : output ≡ o .output
+
+-- A refusal that leaves the first places of both work slices 0.
+pub record Refuses (why : StripRefusal) (need : ℕ) (first second : List ℕ) (r : Strip) (first′ second′ : List ℕ) : Type 0 where
+  pub answers : r ≡ Strip.Refused why
+  pub clearsFirst : first′ ≡ over (replicate need 0) first
+  pub clearsSecond : second′ ≡ over (replicate need 0) second
+
+-- The blocks stand in the section, the work slices are long enough, and a strip is no longer than the section.
+pub record Strippable (s : List ℕ) (bones morphs : Block) (first second : List ℕ) : Type 0 where
+  pub bonesFit : Fits s bones
+  pub morphsFit : Fits s morphs
+  pub boneKind : bones .kind ≡ Kind.Bone
+  pub morphKind : morphs .kind ≡ Kind.Morph
+  pub firstRoom : bones .records .count + morphs .records .count ≤ length first
+  pub secondRoom : bones .records .count + morphs .records .count ≤ length second
+  pub short : kindMeets s bones ≡ none → kindMeets s morphs ≡ none → length (stripBytes s bones morphs) ≤ length s

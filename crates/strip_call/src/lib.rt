@@ -4,4 +4,5 @@ pub mod answer;
 mod blocks;
 mod build;
 mod bytes;
+pub mod call;
 mod clip_build;

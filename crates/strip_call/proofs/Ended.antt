@@ -1,0 +1,123 @@
+-- How a run of the strip call ends, by what its parts gave. Assumes nothing.
+use Prim.Native.Nat.{ℕ, _+_, _≤_, _<_}
+use native.Mathlib.Omega.{arith}
+use mathlib.Core.List.{List, [], _∷_, _++_, append-assoc}
+use mathlib.Core.Option.{Option, none, some}
+use mathlib.Core.Path.{_≡_, refl, sym, ap, _∙_, subst}
+use borrow.Author.Tests.{lt-ltb, le-ltb}
+use lib.IntN.{pos}
+use lib.ListN.{length, take, drop, replicate, length-replicate, length-append, take-append-drop}
+use lib.Seq.{take-add, length-take-le, drop-drop}
+use Rattle.layout.specs.Walk.{refusal, Answer, answered, declined}
+use Rattle.clip.specs.First.{_or_}
+use Rattle.clip.specs.Fields.{bone, morph}
+use Rattle.keys.specs.Placed.{Room, Wrote}
+use Rattle.keys.proofs.Placing.{placed-first}
+use Rattle.strip.specs.Work.{each, byIndex, trackMark}
+use Rattle.strip.specs.Call.{Built, Outcome, over, zeroed}
+use Rattle.chains.specs.Block.{kindOf, links}
+use Rattle.chains.specs.Fault.{faultOf}
+use Rattle.chains.specs.declared.block.Block.{Block}
+use Rattle.chains.specs.declared.block.Kind.{Kind}
+use Rattle.chains.specs.declared.fault.Fault.{Fault}
+use Rattle.strip_call.specs.Parts.{part, Outside}
+use Rattle.strip_call.specs.Answers.{kindMeets, Passed, ClipPassed, ClipBuilds, refusalRead, stripRead}
+use Rattle.strip_call.specs.Bytes.{stripBytes, Readable}
+use Rattle.strip_call.specs.Outcomes.{Parts, outcomeBy, outcomeOf, partsOf, Says, Refuses, Strippable}
+use Rattle.strip_call.specs.declared.answer.BuiltClip.{BuiltClip}
+use Rattle.strip_call.specs.declared.answer.Strip.{Strip}
+use Rattle.strip_call.specs.declared.answer.StripRefusal.{StripRefusal}
+
+same-answer : (l l′ r r′ k k′ : ℕ) → l ≡ l′ → r ≡ r′ → k ≡ k′ → _≡_ {A = Answer Built} (answered (record { length = l; reached = r; loose = k })) (answered (record { length = l′; reached = r′; loose = k′ }))
+same-answer l l′ r r′ k k′ el er ek = rw (el, er, ek)
+
+-- Zeros over a slice of which only those places had changed.
+cleared-over : (n : ℕ) (before after : List ℕ) → Outside 0 n before after → over (replicate n 0) after ≡ over (replicate n 0) before
+cleared-over n before after o =
+    let size = length-replicate {A = ℕ} n 0 in
+    let same : length (replicate {A = ℕ} n 0) ≡ 0 + n = omega (arith, size) in
+    ap (λ (l : List ℕ). replicate n 0 ++ l) (ap (λ (k : ℕ). drop k after) same ∙ o .back ∙ sym (ap (λ (k : ℕ). drop k before) same))
+
+-- Two parts written, and nothing else.
+both-over : (a n : ℕ) (xs ys before after : List ℕ) → part 0 a after ≡ xs → part a n after ≡ ys → Outside 0 (a + n) before after → a + n ≤ length before → after ≡ over (xs ++ ys) before
+both-over a n xs ys before after ex ey o room =
+    let long = o .same in
+    let lx : length xs ≡ a = sym (ap length ex) ∙ length-take-le a after (omega (arith, room, long)) in
+    let whole : take (a + n) after ≡ xs ++ ys = take-add a n after ∙ ap (λ (l : List ℕ). l ++ take n (drop a after)) ex ∙ ap (λ (l : List ℕ). xs ++ l) ey in
+    let size : length (xs ++ ys) ≡ a + n = sym (ap length whole) ∙ length-take-le (a + n) after (omega (arith, room, long)) in
+    let plain : 0 + (a + n) ≡ a + n = omega arith in
+    let rest : drop (a + n) after ≡ drop (length (xs ++ ys)) before = sym (ap (λ (k : ℕ). drop k after) plain) ∙ o .back ∙ ap (λ (k : ℕ). drop k before) plain ∙ sym (ap (λ (k : ℕ). drop k before) size) in
+    sym (take-append-drop (a + n) after) ∙ ap (λ (l : List ℕ). l ++ drop (a + n) after) whole ∙ ap (λ (l : List ℕ). xs ++ ys ++ l) rest
+
+module _ (s : List ℕ) (bones morphs : Block) (first second output : List ℕ) (st : Strippable s bones morphs first second) (first₁ second₁ : List ℕ) (o₁ : Outside 0 (bones .records .count + morphs .records .count) first first₁) (o₂ : Outside 0 (bones .records .count + morphs .records .count) second second₁) where
+  need : ℕ
+  need = bones .records .count + morphs .records .count
+
+  zeroed-says : (o : Outcome) (why : StripRefusal) → o ≡ zeroed first second output (bones .records .count + morphs .records .count) (refusalRead why) → (r : Strip) (first₂ second₂ : List ℕ) → Refuses why (bones .records .count + morphs .records .count) first₁ second₁ r first₂ second₂ → Says o r first₂ second₂ output
+  zeroed-says o why is r first₂ second₂ f =
+      record {
+        answers = ap stripRead (f .answers) ∙ sym (ap (λ (x : Outcome). x .answer) is);
+        leavesFirst = f .clearsFirst ∙ cleared-over (bones .records .count + morphs .records .count) first first₁ o₁ ∙ sym (ap (λ (x : Outcome). x .first) is);
+        leavesSecond = f .clearsSecond ∙ cleared-over (bones .records .count + morphs .records .count) second second₁ o₂ ∙ sym (ap (λ (x : Outcome). x .second) is);
+        leavesOutput = sym (ap (λ (x : Outcome). x .output) is);
+      }
+
+  module _ (b : BuiltClip) (builds : ClipBuilds s bones morphs first₁ second₁ b) where
+    pub bones-refused : (count : ℕ) (fault : Fault) → b ≡ BuiltClip.Bones count fault → (r : Strip) (first₂ second₂ : List ℕ) → Refuses (StripRefusal.Bones count fault) (bones .records .count + morphs .records .count) first₁ second₁ r first₂ second₂ → Says (outcomeOf first second output (bones .records .count + morphs .records .count) (partsOf s bones morphs)) r first₂ second₂ output
+    bones-refused count fault seen =
+        let met : kindMeets s bones ≡ some (faultOf (kindOf (bones .kind)) count fault) = subst (λ (k : BuiltClip). ClipBuilds s bones morphs first₁ second₁ k) seen builds in
+        zeroed-says _ (StripRefusal.Bones count fault) (rw (met, st .boneKind))
+
+    pub morphs-refused : (count : ℕ) (fault : Fault) → b ≡ BuiltClip.Morphs count fault → (r : Strip) (first₂ second₂ : List ℕ) → Refuses (StripRefusal.Morphs count fault) (bones .records .count + morphs .records .count) first₁ second₁ r first₂ second₂ → Says (outcomeOf first second output (bones .records .count + morphs .records .count) (partsOf s bones morphs)) r first₂ second₂ output
+    morphs-refused count fault seen =
+        let both : (kindMeets s bones ≡ none) × (kindMeets s morphs ≡ some (faultOf (kindOf (morphs .kind)) count fault)) = subst (λ (k : BuiltClip). ClipBuilds s bones morphs first₁ second₁ k) seen builds in
+        zeroed-says _ (StripRefusal.Morphs count fault) (rw (both .0, both .1, st .morphKind))
+
+    module _ (reached left : ℕ) (seen : b ≡ BuiltClip.Counted reached left) where
+      passed : ClipPassed s bones morphs first₁ second₁ reached left
+      passed = subst (λ (k : BuiltClip). ClipBuilds s bones morphs first₁ second₁ k) seen builds
+
+      met-none : partsOf s bones morphs .met ≡ none
+      met-none = rw (passed .ofBones .meets, passed .ofMorphs .meets)
+
+      pub readable : Readable s bones morphs first₁
+      readable =
+          let long = o₁ .same in
+          let room = st .firstRoom in
+          record {
+            room = omega (arith, long, room);
+            boneOrder = passed .ofBones .ordered;
+            boneEnds = passed .ofBones .ends;
+            morphOrder = passed .ofMorphs .ordered;
+            morphEnds = passed .ofMorphs .ends;
+            short = st .short (passed .ofBones .meets) (passed .ofMorphs .meets);
+          }
+
+      module _ (measured : ℕ) (is : measured ≡ length (stripBytes s bones morphs)) where
+        pub output-short : length output < measured → (r : Strip) (first₂ second₂ : List ℕ) → Refuses (StripRefusal.OutputTooShort measured) (bones .records .count + morphs .records .count) first₁ second₁ r first₂ second₂ → Says (outcomeOf first second output (bones .records .count + morphs .records .count) (partsOf s bones morphs)) r first₂ second₂ output
+        output-short less = zeroed-says _ (StripRefusal.OutputTooShort measured) (rw (met-none, is, lt-ltb (length output) (length (stripBytes s bones morphs)) (subst (λ (k : ℕ). length output < k) is less)))
+
+        pub output-room : measured ≤ length output → Room 0 (stripBytes s bones morphs) output
+        output-room fits = omega (arith, is, fits)
+
+        pub written-says : measured ≤ length output → (end : ℕ) (output′ : List ℕ) → Wrote 0 (stripBytes s bones morphs) output end output′ → Says (outcomeOf first second output (bones .records .count + morphs .records .count) (partsOf s bones morphs)) (Strip.Built measured reached left) first₁ second₁ output′
+        written-says fits end output′ w =
+            let wide = le-ltb (length output) (length (stripBytes s bones morphs)) (subst (λ (k : ℕ). k ≤ length output) is fits) in
+            let c = passed in
+            let f₁ = both-over (bones .records .count) (morphs .records .count) _ _ first first₁ (c .ofBones .ordered .positions) (c .ofMorphs .ordered .positions) o₁ (st .firstRoom) in
+            let f₂ = both-over (bones .records .count) (morphs .records .count) _ _ second second₁ (c .ofBones .marked) (c .ofMorphs .marked) o₂ (st .secondRoom) in
+            let r₁ = c .ofBones .followed in
+            let r₂ = c .ofMorphs .followed in
+            let l₁ = c .ofBones .unreached in
+            let l₂ = c .ofMorphs .unreached in
+            let all = c .allReached in
+            let rest = c .allLoose in
+            let er : reached ≡ partsOf s bones morphs .reached = omega (arith, all, r₁, r₂) in
+            let el : left ≡ partsOf s bones morphs .looseOnes = omega (arith, rest, l₁, l₂) in
+            let out : output′ ≡ over (stripBytes s bones morphs) output = w .leaves ∙ placed-first (stripBytes s bones morphs) output in
+            record {
+              answers = rw (met-none, wide) (same-answer measured (length (stripBytes s bones morphs)) reached _ left _ is er el);
+              leavesFirst = rw (met-none, wide) f₁;
+              leavesSecond = rw (met-none, wide) f₂;
+              leavesOutput = rw (met-none, wide) out;
+            }

@@ -1,0 +1,66 @@
+// The strip call.
+ghost use mathlib.Core.Option.{none};
+ghost use mathlib.Core.Path.{_≡_};
+ghost use Prim.Native.Nat.{_+_, _≤_};
+ghost use lib.ListN.{length};
+ghost use Rattle.section.specs.Limits.{edition1};
+ghost use Rattle.clip.proofs.Facts.{Blocks};
+ghost use Rattle.strip.specs.Strip.{countWidth};
+ghost use Rattle.strip.specs.Call.{slicesTested, stripCall};
+ghost use Rattle.chains.specs.Block.{Fits};
+ghost use Rattle.clip.specs.Section.{bones, morphs};
+ghost use Rattle.strip_call.specs.Answers.{kindMeets};
+ghost use Rattle.strip_call.specs.Bytes.{stripBytes};
+ghost use Rattle.strip_call.specs.Outcomes.{outcomeOf, partsOf, Says, Refuses, Strippable};
+use crate::answer::BuiltClip;
+use crate::answer::Strip;
+use crate::answer::StripRefusal;
+use crate::blocks;
+use crate::bytes;
+use crate::clip_build;
+use chains::block::Block;
+use section::model;
+use section::model::Model;
+use section::model::ReadModel;
+
+// Refused: "3 to 15 and 18 leave the first A + B places of both u16 slices 0".
+fn refuse(why: StripRefusal, need: usize, first: &mut [u16], second: &mut [u16]) -> Strip
+    requires { ⌜ need ≤ length (now first) ⌝ }
+    requires { ⌜ need ≤ length (now second) ⌝ }
+    ensures { λ r. ⌜ Refuses why need (now (first .entry)) (now (second .entry)) r (now (first .exit)) (now (second .exit)) ⌝ }
+{
+    bytes::clear(first, need);
+    bytes::clear(second, need);
+    Strip::Refused(why)
+}
+
+// The section is read and the work slices are long enough.
+fn strip_blocks(
+    s: &[u8],
+    of_bones: Block,
+    of_morphs: Block,
+    first: &mut [u16],
+    second: &mut [u16],
+    output: &mut [u8],
+) -> Strip
+    requires { ⌜ Strippable (now s) «of_bones» «of_morphs» (now first) (now second) ⌝ }
+    ensures { λ r. ⌜ Says (outcomeOf (now (first .entry)) (now (second .entry)) (now (output .entry)) («of_bones» .records .count + «of_morphs» .records .count) (partsOf (now (s .entry)) «of_bones» «of_morphs»)) r (now (first .exit)) (now (second .exit)) (now (output .exit)) ⌝ }
+{
+    let need = of_bones.records.count + of_morphs.records.count;
+    match clip_build::build_clip(s, of_bones, of_morphs, first, second) {
+        BuiltClip::Bones(count, fault) => {
+            refuse(StripRefusal::Bones(count, fault), need, first, second)
+        }
+        BuiltClip::Morphs(count, fault) => {
+            refuse(StripRefusal::Morphs(count, fault), need, first, second)
+        }
+        BuiltClip::Counted(reached, loose) => {
+            let length = bytes::strip_length(s, of_bones, of_morphs, first);
+            if output.len() < length {
+                return refuse(StripRefusal::OutputTooShort(length), need, first, second);
+            }
+            bytes::write_strip(s, of_bones, of_morphs, first, output);
+            Strip::Built(length, reached, loose)
+        }
+    }
+}

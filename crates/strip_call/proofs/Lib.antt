@@ -5,3 +5,4 @@ pub mod Pieces
 pub mod Cleared
 pub mod Same
 pub mod Ended
+pub mod Called

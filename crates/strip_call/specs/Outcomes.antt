@@ -7,7 +7,10 @@ use mathlib.Core.Path.{_≡_}
 use lib.Dec.{ltb}
 use lib.IntN.{pos}
 use lib.ListN.{length, replicate}
-use Rattle.layout.specs.Walk.{Refusal, refusal, answered}
+use Rattle.layout.specs.Walk.{Refusal, refusal, answered, fine}
+use Rattle.section.specs.Limits.{edition1}
+use Rattle.section.specs.Model.{modelSection}
+use Rattle.section.specs.declared.model.Model.{Model}
 use Rattle.clip.specs.First.{_or_}
 use Rattle.clip.specs.Build.{linksFollowed, loose}
 use Rattle.strip.specs.Work.{each, byIndex, trackMark}
@@ -80,3 +83,9 @@ pub record Strippable (s : List ℕ) (bones morphs : Block) (first second : List
   pub firstRoom : bones .records .count + morphs .records .count ≤ length first
   pub secondRoom : bones .records .count + morphs .records .count ≤ length second
   pub short : kindMeets s bones ≡ none → kindMeets s morphs ≡ none → length (stripBytes s bones morphs) ≤ length s
+
+-- The model that reading a section from some start gives.
+pub record WasRead (s : List ℕ) (m : Model) : Type 0 where
+  pub start : ℕ
+  pub end : ℕ
+  pub reads : modelSection edition1 s start ≡ fine m end

@@ -1,17 +1,11 @@
 // The strip call.
-ghost use mathlib.Core.Option.{none};
-ghost use mathlib.Core.Path.{_≡_};
 ghost use Prim.Native.Nat.{_+_, _≤_};
 ghost use lib.ListN.{length};
 ghost use Rattle.section.specs.Limits.{edition1};
-ghost use Rattle.clip.proofs.Facts.{Blocks};
 ghost use Rattle.strip.specs.Strip.{countWidth};
 ghost use Rattle.strip.specs.Call.{slicesTested, stripCall};
-ghost use Rattle.chains.specs.Block.{Fits};
 ghost use Rattle.clip.specs.Section.{bones, morphs};
-ghost use Rattle.strip_call.specs.Answers.{kindMeets};
-ghost use Rattle.strip_call.specs.Bytes.{stripBytes};
-ghost use Rattle.strip_call.specs.Outcomes.{outcomeOf, partsOf, Says, Refuses, Strippable};
+ghost use Rattle.strip_call.specs.Outcomes.{outcomeOf, partsOf, Says, Refuses, Strippable, WasRead};
 use crate::answer::BuiltClip;
 use crate::answer::Strip;
 use crate::answer::StripRefusal;
@@ -62,5 +56,44 @@ fn strip_blocks(
             bytes::write_strip(s, of_bones, of_morphs, first, output);
             Strip::Built(length, reached, loose)
         }
+    }
+}
+
+// The section is read.
+fn strip_model(
+    s: &[u8],
+    m: Model,
+    first: &mut [u16],
+    second: &mut [u16],
+    output: &mut [u8],
+) -> Strip
+    requires { ⌜ WasRead (now s) m ⌝ }
+    ensures { λ r. ⌜ Says (slicesTested (now (first .entry)) (now (second .entry)) (now (output .entry)) countWidth (now (s .entry)) m (bones (now (s .entry)) m .additional + morphs (now (s .entry)) m .additional)) r (now (first .exit)) (now (second .exit)) (now (output .exit)) ⌝ }
+{
+    let of_bones = blocks::bone_block(m);
+    let of_morphs = blocks::morph_block(m);
+    let need = of_bones.records.count + of_morphs.records.count;
+    if first.len() < need {
+        return Strip::Refused(StripRefusal::WorkTooShort(need));
+    }
+    if second.len() < need {
+        return Strip::Refused(StripRefusal::WorkTooShort(need));
+    }
+    strip_blocks(s, of_bones, of_morphs, first, second, output)
+}
+
+// Document 01, "The strip": every section, start and slices are taken.
+pub fn strip(
+    section: &[u8],
+    start: usize,
+    first: &mut [u16],
+    second: &mut [u16],
+    output: &mut [u8],
+) -> Strip
+    ensures { λ r. ⌜ Says (stripCall edition1 countWidth (now (section .entry)) start (now (first .entry)) (now (second .entry)) (now (output .entry))) r (now (first .exit)) (now (second .exit)) (now (output .exit)) ⌝ }
+{
+    match model::read_model(section, start) {
+        ReadModel::Refused(why) => Strip::Refused(StripRefusal::Reading(why)),
+        ReadModel::Read(m, _) => strip_model(section, m, first, second, output),
     }
 }

@@ -3,3 +3,4 @@ pub mod Parts
 pub mod Answers
 pub mod Bytes
 pub mod Outcomes
+pub mod Demand3

@@ -88,9 +88,9 @@ module _ (s : List ℕ) (b : Block) (slots : List ℕ) (ordered : Ordered s b sl
         let frame = links s b .at (getD list i 0) .frame in
         let body = links s b .at (getD list i 0) .body in
         let told : keyMeets s (b .kind) track frame body true ≡ none =
-            subst (λ (x : Bool). keyMeets s (b .kind) track frame body x ≡ none) (eq-eqb (i + 1) again same) (sym contract ∙ ap (metRead (kindOf (b .kind)) (b .initials .count)) seen) in
+        subst (λ (x : Bool). keyMeets s (b .kind) track frame body x ≡ none) (eq-eqb (i + 1) again same) (sym contract ∙ ap (metRead (kindOf (b .kind)) (b .initials .count)) seen) in
         let inner : (given true (refusalOf (kindOf (b .kind)) 11 (pos track ∷ signed frame ∷ [])) or bodyRefusal (askedAt s (b .kind) body) track frame) ≡ none =
-            or-none (given (negative frame) (refusalOf (kindOf (b .kind)) 10 (pos track ∷ signed frame ∷ []))) (given true (refusalOf (kindOf (b .kind)) 11 (pos track ∷ signed frame ∷ [])) or bodyRefusal (askedAt s (b .kind) body) track frame) told .1 in
+        or-none (given (negative frame) (refusalOf (kindOf (b .kind)) 10 (pos track ∷ signed frame ∷ []))) (given true (refusalOf (kindOf (b .kind)) 11 (pos track ∷ signed frame ∷ [])) or bodyRefusal (askedAt s (b .kind) body) track frame) told .1 in
         let z : _≡_ {A = ℕ} 0 1 = cc in
         omega arith
 

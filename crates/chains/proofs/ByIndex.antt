@@ -169,9 +169,9 @@ module _ (s : List ℕ) (b : Block) (fits : Fits s b) where
     slots-rise =
         let few = fits .fewRecords in
         subst (λ (xs : List ℕ). NumbersRise s (b .records) xs) (sym is) (λ i j lt inside.
-          let rises = strictly-byIndex (b .records .count) (omega (arith, few)) i j lt inside in
-          let low = under-place (b .records .count) (byIndex (links s b) (b .records .count)) (under-byIndex (links s b) (b .records .count)) j inside in
-          omega (arith, rises, low, few))
+        let rises = strictly-byIndex (b .records .count) (omega (arith, few)) i j lt inside in
+        let low = under-place (b .records .count) (byIndex (links s b) (b .records .count)) (under-byIndex (links s b) (b .records .count)) j inside in
+        omega (arith, rises, low, few))
 
     -- Every record stands in a slot.
     pub slot-of : (p : ℕ) → p < b .records .count → Place p slots
@@ -195,5 +195,5 @@ module _ (s : List ℕ) (b : Block) (fits : Fits s b) where
       lookup-absent r contract seen =
           let none-has : Finds s (b .records) slots link Find.Absent = subst (λ (r : Find). Finds s (b .records) slots link r) seen contract in
           sym (none-first (b .records .count) (λ p. given (eqb (links s b .at p .index) link) p) (λ p lt.
-            let at = slot-of p lt in
-            none-given _ p (ne-eqb (links s b .at p .index) link (λ same. none-has (at .place) (at .inside) (subst (λ (q : ℕ). links s b .at q .index ≡ link) (sym (at .is)) same)))))
+          let at = slot-of p lt in
+          none-given _ p (ne-eqb (links s b .at p .index) link (λ same. none-has (at .place) (at .inside) (subst (λ (q : ℕ). links s b .at q .index ≡ link) (sym (at .is)) same)))))

@@ -50,7 +50,7 @@ module _ (s : List ℕ) (b : Block) where
         let low = ranged .positive p ln in
         none-or _ _ (none-given _ _ (lt-leb (2 ^ 31) (links s b .at p .index) (omega (arith, low))))
         (none-or _ _ (none-given _ _ (le-ltb (links s b .at p .index) (b .initials .count) (ranged .above p ln)))
-          (none-given _ _ (false-any (λ q. eqb (links s b .at q .index) (links s b .at p .index)) p (λ q less. ne-eqb (links s b .at q .index) (links s b .at p .index) (repeat .apart q p less lm)))))
+        (none-given _ _ (false-any (λ q. eqb (links s b .at q .index) (links s b .at p .index)) p (λ q less. ne-eqb (links s b .at q .index) (links s b .at p .index) (repeat .apart q p less lm)))))
 
     all-fine : (k : ℕ) → k ≤ n → k ≤ m → first k (indexRefusal (kindOf (b .kind)) (links s b)) ≡ none
     all-fine k kn km = none-first k (indexRefusal (kindOf (b .kind)) (links s b)) (λ p lt. fine p (omega arith) (omega arith))
@@ -63,20 +63,20 @@ module _ (s : List ℕ) (b : Block) where
         let a = repeat .again (omega (arith, inside)) in
         let seen = true-any (λ q. eqb (links s b .at q .index) (links s b .at m .index)) m (a .0) (a .1) (eq-eqb (links s b .at (a .0) .index) (links s b .at m .index) (a .2)) in
         sym (first-met (b .records .count) (indexRefusal (kindOf (b .kind)) (links s b)) m (refusalOf (kindOf (b .kind)) 5 (signed bits ∷ [])) (omega (arith, inside)) (all-fine m (omega arith) (omega arith))
-          (rw (lt-leb (2 ^ 31) (links s b .at m .index) (omega (arith, low)), le-ltb (links s b .at m .index) (b .initials .count) (ranged .above m lt), seen, sym is)))
+        (rw (lt-leb (2 ^ 31) (links s b .at m .index) (omega (arith, low)), le-ltb (links s b .at m .index) (b .initials .count) (ranged .above m lt), seen, sym is)))
 
     module _ (first-out : n ≤ m) (more : n < b .records .count) (bits : ℕ) (is : bits ≡ links s b .at n .index) where
       pub scan-negative : 2147483648 ≤ bits → some (refusalOf (kindOf (b .kind)) 3 (signed bits ∷ [])) ≡ scan (kindOf (b .kind)) (links s b)
       unfolding scan indexRefusal
       scan-negative high =
           sym (first-met (b .records .count) (indexRefusal (kindOf (b .kind)) (links s b)) n (refusalOf (kindOf (b .kind)) 3 (signed bits ∷ [])) more (all-fine n (omega arith) first-out)
-            (rw (sym is, le-leb (2 ^ 31) bits high)))
+          (rw (sym is, le-leb (2 ^ 31) bits high)))
 
       pub scan-low : bits < 2147483648 → some (refusalOf (kindOf (b .kind)) 4 (signed bits ∷ pos (b .initials .count) ∷ [])) ≡ scan (kindOf (b .kind)) (links s b)
       unfolding scan indexRefusal
       scan-low low =
           sym (first-met (b .records .count) (indexRefusal (kindOf (b .kind)) (links s b)) n (refusalOf (kindOf (b .kind)) 4 (signed bits ∷ pos (b .initials .count) ∷ [])) more (all-fine n (omega arith) first-out)
-            (go (ranged .next more)))
+          (go (ranged .next more)))
         where
           go : (2147483648 ≤ links s b .at n .index) ⊎ (links s b .at n .index < b .initials .count) → indexRefusal (kindOf (b .kind)) (links s b) n ≡ some (refusalOf (kindOf (b .kind)) 4 (signed bits ∷ pos (b .initials .count) ∷ []))
           go (inl high) = absurd (omega (arith, high, is, low))
@@ -94,7 +94,7 @@ module _ (s : List ℕ) (b : Block) where
         fits = fits;
         indexed = scanned (kindOf (b .kind)) (links s b) passes;
         positions = is-byIndex s b fits count slots (omega (arith, few)) (λ x. sorted .same x ∙ once x (ltb x count) refl)
-          (sorted-strictly s (b .records) (upTo count) slots sorted (index-field s b fits) (upTo-below count count (omega arith)) (upTo-once count));
+            (sorted-strictly s (b .records) (upTo count) slots sorted (index-field s b fits) (upTo-below count count (omega arith)) (upTo-once count));
       }
     where
       once : (x : ℕ) (c : Bool) → ltb x (b .records .count) ≡ c → times x (upTo (b .records .count)) ≡ cond (ltb x (b .records .count)) 1 0

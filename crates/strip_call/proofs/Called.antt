@@ -57,9 +57,9 @@ module _ (s : List ℕ) (m : Model) (w : WasRead s m) (bb mb : Block) (eb : bb �
         firstRoom = room₁;
         secondRoom = room₂;
         short = λ n1 n2.
-          let met : clipRefusal s m ≡ none = same-met s m ∙ none-or (kindMeets s (boneBlock m)) (kindMeets s (morphBlock m)) (subst (λ (k : Block). kindMeets s k ≡ none) eb n1) (subst (λ (k : Block). kindMeets s k ≡ none) em n2) in
-          let short = no-longer edition1 countWidth (omega arith) s (w .start) m (w .end) (w .reads) met in
-          rw (eb, em) (subst (λ (l : List ℕ). length l ≤ length s) (same-strip s m) short);
+            let met : clipRefusal s m ≡ none = same-met s m ∙ none-or (kindMeets s (boneBlock m)) (kindMeets s (morphBlock m)) (subst (λ (k : Block). kindMeets s k ≡ none) eb n1) (subst (λ (k : Block). kindMeets s k ≡ none) em n2) in
+            let short = no-longer edition1 countWidth (omega arith) s (w .start) m (w .end) (w .reads) met in
+            rw (eb, em) (subst (λ (l : List ℕ). length l ≤ length s) (same-strip s m) short);
       }
 
   tested : Bool → Outcome
@@ -92,7 +92,7 @@ module _ (s : List ℕ) (m : Model) (w : WasRead s m) (bb mb : Block) (eb : bb �
   long-enough r first′ second′ output′ room₁ room₂ says =
       let o = by-test false (rw (le-ltb (length first) (bb .records .count + mb .records .count) room₁, le-ltb (length second) (bb .records .count + mb .records .count) room₂)) in
       let parts : built first second output countWidth s m (bb .records .count + mb .records .count) (clipRefusal s m) ≡ outcomeOf first second output (bb .records .count + mb .records .count) (partsOf s bb mb) =
-          same-outcome s m first second output (bb .records .count + mb .records .count) ∙ ap (λ (k : Block). outcomeOf first second output (bb .records .count + mb .records .count) (partsOf s k (morphBlock m))) (sym eb) ∙ ap (λ (k : Block). outcomeOf first second output (bb .records .count + mb .records .count) (partsOf s bb k)) (sym em) in
+      same-outcome s m first second output (bb .records .count + mb .records .count) ∙ ap (λ (k : Block). outcomeOf first second output (bb .records .count + mb .records .count) (partsOf s k (morphBlock m))) (sym eb) ∙ ap (λ (k : Block). outcomeOf first second output (bb .records .count + mb .records .count) (partsOf s bb k)) (sym em) in
       subst (λ (x : Outcome). Says x r first′ second′ output′) (sym (o ∙ parts)) says
 
 module _ (s : List ℕ) (start : ℕ) (first second output : List ℕ) (a : ReadModel) (contract : modelRead a ≡ modelSection edition1 s start) where

@@ -35,8 +35,10 @@ module _ (s : List ℕ) (m : Model) where
   pub same-strip : stripOf countWidth s m ≡ stripBytes s (boneBlock m) (morphBlock m)
   unfolding stripOf stripBytes bones morphs recordsAt initialAt additionalAt boneBlock morphBlock
   same-strip =
-      rw (same-bytes (boneBody s) (links s (boneBlock m)) bone countWidth boneGroups boneFields 0 (m .front .counts .bones .count),
-          same-bytes (morphBody s) (links s (morphBlock m)) morph countWidth morphGroups morphFields 0 (m .front .counts .morphs .count))
+      rw (
+        same-bytes (boneBody s) (links s (boneBlock m)) bone countWidth boneGroups boneFields 0 (m .front .counts .bones .count),
+        same-bytes (morphBody s) (links s (morphBlock m)) morph countWidth morphGroups morphFields 0 (m .front .counts .morphs .count),
+      )
 
   pub same-reached : reachedRecords s m ≡ partsOf s (boneBlock m) (morphBlock m) .reached
   unfolding reachedRecords bones morphs recordsAt initialAt additionalAt boneBlock morphBlock

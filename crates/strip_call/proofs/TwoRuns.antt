@@ -41,10 +41,10 @@ pub matched-runs : MatchedRuns
 matched-runs =
     record {
       accepted = λ x y rx ry lx ly ofBones ofMorphs ax.
-        let e = demand3 .0 .accepted (x .lent) (y .lent) rx ry lx ly ofBones ofMorphs (down x ax) in
-        (λ ay. e .0 (down y ay), λ idle. up y (e .1 idle));
+          let e = demand3 .0 .accepted (x .lent) (y .lent) rx ry lx ly ofBones ofMorphs (down x ax) in
+          (λ ay. e .0 (down y ay), λ idle. up y (e .1 idle));
       equal = λ x y rx ry ofBones ofMorphs ax ay.
-        same-out x ax ∙ demand3 .0 .equal (x .lent) (y .lent) rx ry ofBones ofMorphs (down x ax) (down y ay) ∙ sym (same-out y ay);
+          same-out x ax ∙ demand3 .0 .equal (x .lent) (y .lent) rx ry ofBones ofMorphs (down x ax) (down y ay) ∙ sym (same-out y ay);
     }
 
 pub accepted-runs : AcceptedRuns
@@ -52,6 +52,6 @@ accepted-runs =
     record {
       within = λ x a. demand3 .1 .within (x .lent) (down x a);
       equal = λ x y rx ry ax ay.
-        let e = demand3 .1 .equal (x .lent) (y .lent) rx ry (down x ax) (down y ay) in
-        (λ same. e .0 (sym (same-out x ax) ∙ same ∙ same-out y ay), λ t. same-out x ax ∙ e .1 t ∙ sym (same-out y ay));
+          let e = demand3 .1 .equal (x .lent) (y .lent) rx ry (down x ax) (down y ay) in
+          (λ same. e .0 (sym (same-out x ax) ∙ same ∙ same-out y ay), λ t. same-out x ax ∙ e .1 t ∙ sym (same-out y ay));
     }

@@ -42,18 +42,18 @@ ReadWithin x = Within edition1 countWidth (x .lent)
 -- are equal byte for byte."
 pub record MatchedRuns : Type 0 where
   pub accepted :
-    (x y : Run) (readX : ReadWithin x) (readY : ReadWithin y)
-    → LongEnough countWidth (x .lent) (readX .model) → LongEnough countWidth (y .lent) (readY .model)
-    → (ofBones : Matched (bones (x .lent .section) (readX .model)) (bones (y .lent .section) (readY .model)))
-    → (ofMorphs : Matched (morphs (x .lent .section) (readX .model)) (morphs (y .lent .section) (readY .model)))
-    → Accepted x
-    → Accepted y ↔ (UnpairedIdle ofBones × UnpairedIdle ofMorphs)
+      (x y : Run) (readX : ReadWithin x) (readY : ReadWithin y)
+      → LongEnough countWidth (x .lent) (readX .model) → LongEnough countWidth (y .lent) (readY .model)
+      → (ofBones : Matched (bones (x .lent .section) (readX .model)) (bones (y .lent .section) (readY .model)))
+      → (ofMorphs : Matched (morphs (x .lent .section) (readX .model)) (morphs (y .lent .section) (readY .model)))
+      → Accepted x
+      → Accepted y ↔ (UnpairedIdle ofBones × UnpairedIdle ofMorphs)
   pub equal :
-    (x y : Run) (readX : ReadWithin x) (readY : ReadWithin y)
-    → Matched (bones (x .lent .section) (readX .model)) (bones (y .lent .section) (readY .model))
-    → Matched (morphs (x .lent .section) (readX .model)) (morphs (y .lent .section) (readY .model))
-    → (acceptedX : Accepted x) (acceptedY : Accepted y)
-    → stripOut x acceptedX ≡ stripOut y acceptedY
+      (x y : Run) (readX : ReadWithin x) (readY : ReadWithin y)
+      → Matched (bones (x .lent .section) (readX .model)) (bones (y .lent .section) (readY .model))
+      → Matched (morphs (x .lent .section) (readX .model)) (morphs (y .lent .section) (readY .model))
+      → (acceptedX : Accepted x) (acceptedY : Accepted y)
+      → stripOut x acceptedX ≡ stripOut y acceptedY
 
 -- "Any two accepted sections, matched like this or not, have equal strips exactly when their bone and morph counts are equal and each track
 -- has as many keys in both, those in the same place alike by 01."
@@ -61,6 +61,6 @@ pub record AcceptedRuns : Type 0 where
   -- An accepted section was read within the limits.
   pub within : (x : Run) → Accepted x → ReadWithin x
   pub equal :
-    (x y : Run) (readX : ReadWithin x) (readY : ReadWithin y) (acceptedX : Accepted x) (acceptedY : Accepted y)
-    → (stripOut x acceptedX ≡ stripOut y acceptedY)
+      (x y : Run) (readX : ReadWithin x) (readY : ReadWithin y) (acceptedX : Accepted x) (acceptedY : Accepted y)
+      → (stripOut x acceptedX ≡ stripOut y acceptedY)
       ↔ SameTracks (x .lent .section) (readX .model) (y .lent .section) (readY .model)

@@ -37,11 +37,11 @@ module _ (first second output : List ℕ) (need : ℕ) where
   finished p =
       cond (ltb (length output) (length (p .strip))) (zeroed first second output need (refusal 18 (pos (length (p .strip)) ∷ [])))
       (record {
-         answer = answered (record { length = length (p .strip); reached = p .reached; loose = p .looseOnes });
-         first = over (p .firstWork) first;
-         second = over (p .secondWork) second;
-         output = over (p .strip) output;
-       })
+        answer = answered (record { length = length (p .strip); reached = p .reached; loose = p .looseOnes });
+        first = over (p .firstWork) first;
+        second = over (p .secondWork) second;
+        output = over (p .strip) output;
+      })
 
   abbrev pub outcomeBy : Option Refusal → Parts → Outcome
   outcomeBy (some why) p = zeroed first second output need why

@@ -15,8 +15,16 @@ pub fn bone_block(m: Model) -> Block
     let additional = keyframes.count as usize;
     Block {
         kind: Kind::Bone,
-        initials: Field { first: keyframes.initial_offset, width: 58, count: tracks },
-        records: Field { first: keyframes.offset, width: 62, count: additional },
+        initials: Field {
+            first: keyframes.initial_offset,
+            width: 58,
+            count: tracks,
+        },
+        records: Field {
+            first: keyframes.offset,
+            width: 62,
+            count: additional,
+        },
     }
 }
 
@@ -29,7 +37,15 @@ pub fn morph_block(m: Model) -> Block
     let additional = keyframes.count as usize;
     Block {
         kind: Kind::Morph,
-        initials: Field { first: keyframes.initial_offset, width: 17, count: tracks },
-        records: Field { first: keyframes.offset, width: 21, count: additional },
+        initials: Field {
+            first: keyframes.initial_offset,
+            width: 17,
+            count: tracks,
+        },
+        records: Field {
+            first: keyframes.offset,
+            width: 21,
+            count: additional,
+        },
     }
 }

@@ -65,9 +65,6 @@ module _ (s : List ℕ) (b : Block) where
   chain-meets track why is = rw is
 
   module _ (slots : List ℕ) (ordered : Ordered s b slots) (track : ℕ) (is-track : track < b .initials .count) (n : ℕ) (list : List ℕ) (listed : Listed s b track n list) where
-    ps : List ℕ
-    ps = take n list
-
     chain-listed : chainOf (kindOf (b .kind)) (links s b) track ≡ take n list
     unfolding chainOf
     chain-listed = ap positions listed

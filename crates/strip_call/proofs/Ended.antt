@@ -50,9 +50,6 @@ both-over a n xs ys before after ex ey o room =
     sym (take-append-drop (a + n) after) ∙ ap (λ (l : List ℕ). l ++ drop (a + n) after) whole ∙ ap (λ (l : List ℕ). xs ++ ys ++ l) rest
 
 module _ (s : List ℕ) (bones morphs : Block) (first second output : List ℕ) (st : Strippable s bones morphs first second) (first₁ second₁ : List ℕ) (o₁ : Outside 0 (bones .records .count + morphs .records .count) first first₁) (o₂ : Outside 0 (bones .records .count + morphs .records .count) second second₁) where
-  need : ℕ
-  need = bones .records .count + morphs .records .count
-
   zeroed-says : (o : Outcome) (why : StripRefusal) → o ≡ zeroed first second output (bones .records .count + morphs .records .count) (refusalRead why) → (r : Strip) (first₂ second₂ : List ℕ) → Refuses why (bones .records .count + morphs .records .count) first₁ second₁ r first₂ second₂ → Says o r first₂ second₂ output
   zeroed-says o why is r first₂ second₂ f =
       record {

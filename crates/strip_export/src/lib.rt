@@ -1,0 +1,2 @@
+// The strip call for C.
+pub mod call;

@@ -1,123 +1,37 @@
 // The strip call for C: 0 is returned and the strip's length, reached and loose are written, or a refusal's number is returned and its
-// values are written, as far as `values` reaches. Document 01 has 3 to 11 and 15 say bone or morph: 0 or 1 is written before their values.
+// values are written, as far as `values` reaches. Where document 01 has a refusal say bone or morph, 0 or 1 is written first.
+ghost use Rattle.section.specs.Limits.{edition1};
+ghost use Rattle.strip.specs.Strip.{countWidth};
+ghost use Rattle.strip.specs.Call.{stripCall};
+ghost use Rattle.strip_call.specs.Answers.{refusalRead};
+ghost use Rattle.strip_export.specs.Answers.{Refuses, Leaves};
+ghost use Rattle.binary.specs.Answers.{because};
+use crate::faults;
+use crate::values;
 use binary::counts::Refusal;
-use chains::fault::Fault;
+use chains::block::Kind;
 use strip_call::answer::Strip;
 use strip_call::answer::StripRefusal;
 
-fn put(values: &mut [u64], at: usize, number: u64) {
-    if at < values.len() {
-        values[at] = number;
-    }
+fn not_read(numbers: &mut [u64], why: Refusal) -> u32
+    ensures { λ r. ⌜ Refuses (because why) (now (numbers .entry)) r (now (numbers .exit)) ⌝ }
+{
+    numbers::refusals::refused(numbers, why)
 }
 
-fn put_place(values: &mut [u64], place: usize) {
-    put(values, 0, place as u64);
-}
-
-fn reading(values: &mut [u64], why: Refusal) -> u32 {
+fn refused(numbers: &mut [u64], why: StripRefusal) -> u32
+    ensures { λ r. ⌜ Refuses (refusalRead why) (now (numbers .entry)) r (now (numbers .exit)) ⌝ }
+{
     match why {
-        Refusal::TooShort(place) => {
-            put_place(values, place);
-            1
-        }
-        Refusal::NegativeCount(place) => {
-            put_place(values, place);
-            2
-        }
-        Refusal::CountAboveLimit(place) => {
-            put_place(values, place);
-            20
-        }
-        Refusal::TooLong => 16,
-        Refusal::Absent => 19,
-    }
-}
-
-fn put_index(values: &mut [u64], kind: u64, index: u32) {
-    put(values, 0, kind);
-    put(values, 1, index as u64);
-}
-
-fn put_on_track(values: &mut [u64], kind: u64, track: usize, bits: u32) {
-    put(values, 0, kind);
-    put(values, 1, track as u64);
-    put(values, 2, bits as u64);
-}
-
-fn put_body(values: &mut [u64], track: usize, frame: u32) {
-    put(values, 0, track as u64);
-    put(values, 1, frame as u64);
-}
-
-fn put_previous(values: &mut [u64], found: u32, expected: u32) {
-    put(values, 3, found as u64);
-    put(values, 4, expected as u64);
-}
-
-fn put_count(values: &mut [u64], at: usize, count: usize) {
-    put(values, at, count as u64);
-}
-
-fn building(values: &mut [u64], kind: u64, count: usize, fault: Fault) -> u32 {
-    match fault {
-        Fault::NegativeIndex(index) => {
-            put_index(values, kind, index);
-            3
-        }
-        Fault::IndexBelowCount(index) => {
-            put_index(values, kind, index);
-            put_count(values, 2, count);
-            4
-        }
-        Fault::RepeatedIndex(index) => {
-            put_index(values, kind, index);
-            5
-        }
-        Fault::Missing(track, link) => {
-            put_on_track(values, kind, track, link);
-            6
-        }
-        Fault::Cycle(track, link) => {
-            put_on_track(values, kind, track, link);
-            7
-        }
-        Fault::Wrong(track, link, found, expected) => {
-            put_on_track(values, kind, track, link);
-            put_previous(values, found, expected);
-            8
-        }
-        Fault::NegativeFrame(track, frame) => {
-            put_on_track(values, kind, track, frame);
-            10
-        }
-        Fault::RepeatedFrame(track, frame) => {
-            put_on_track(values, kind, track, frame);
-            11
-        }
-        Fault::Body(number, track, frame) => {
-            put_body(values, track, frame);
-            number as u32
-        }
-        Fault::Disconnected(records) => {
-            put(values, 0, kind);
-            put_count(values, 1, records);
-            15
-        }
-    }
-}
-
-fn refused(values: &mut [u64], why: StripRefusal) -> u32 {
-    match why {
-        StripRefusal::Reading(why) => reading(values, why),
-        StripRefusal::Bones(count, fault) => building(values, 0, count, fault),
-        StripRefusal::Morphs(count, fault) => building(values, 1, count, fault),
+        StripRefusal::Reading(why) => not_read(numbers, why),
+        StripRefusal::Bones(count, fault) => faults::refused(numbers, Kind::Bone, count, fault),
+        StripRefusal::Morphs(count, fault) => faults::refused(numbers, Kind::Morph, count, fault),
         StripRefusal::WorkTooShort(need) => {
-            put_place(values, need);
+            values::put_length(numbers, need);
             17
         }
         StripRefusal::OutputTooShort(length) => {
-            put_place(values, length);
+            values::put_length(numbers, length);
             18
         }
     }
@@ -131,13 +45,13 @@ pub extern "C" fn limdroven_strip(
     second: &mut [u16],
     output: &mut [u8],
     values: &mut [u64],
-) -> u32 {
+) -> u32
+    ensures { λ r. ⌜ Leaves (stripCall edition1 countWidth (now (section .entry)) start (now (first .entry)) (now (second .entry)) (now (output .entry))) (now (values .entry)) r (now (first .exit)) (now (second .exit)) (now (output .exit)) (now (values .exit)) ⌝ }
+{
     match strip_call::call::strip(section, start, first, second, output) {
         Strip::Refused(why) => refused(values, why),
         Strip::Built(length, reached, loose) => {
-            put_count(values, 0, length);
-            put_count(values, 1, reached);
-            put_count(values, 2, loose);
+            values::put_built(values, length, reached, loose);
             0
         }
     }

@@ -1,2 +1,4 @@
-// The strip call for C.
+// The strip call of document 01 for C.
 pub mod call;
+mod faults;
+mod values;

@@ -11,7 +11,7 @@ same-length : tie.Need-same-length
 same-length c = search needs
 
 returns : tie.Need-returns
-returns c = place _ _ _ _ (c .before .before .refused .ensures)
+returns c = place (c .before .before .before .before .before .args .why) _ _ _ (c .before .before .refused .ensures)
 
 pub not-read-spec : {M : Type 1} → statement M
 not-read-spec = tie.close (tie.spec refused-requires same-length returns)

@@ -1,7 +1,6 @@
 //! What the Rust answers, as flat data that another reader's answers can be held against.
 
 pub mod clip;
-pub mod difference;
 pub mod flat;
 pub mod model;
 pub mod refusal;
@@ -10,7 +9,6 @@ pub mod track;
 pub mod walk;
 
 pub use clip::{BoneKey, Clip, MorphKey, build};
-pub use difference::Difference;
 pub use flat::Flat;
 pub use mmd_anim_format::sjis::oracle_name as name_as_shown;
 pub use model::{Model, Record};

@@ -1,8 +1,9 @@
 //! The proved library, called as C calls it. A slice is a pointer and a length.
 
 mod safe;
+mod strip;
 
-use calls::{Arguments, Call, Other};
+use calls::{Arguments, Call, Other, Slices};
 
 /// Every answer is the library's; only the slices are this crate's.
 pub struct Library;
@@ -60,6 +61,10 @@ impl Other for Library {
             _ => unreachable!("{} answers numbers", call.name()),
         };
         length as u64
+    }
+
+    fn strip(&self, section: &[u8], start: u64, slices: &mut Slices) -> u32 {
+        strip::strip(section, place(start), slices)
     }
 }
 

@@ -3,12 +3,12 @@
 use std::collections::BTreeMap;
 use std::fmt;
 
-use answers::Difference;
 use calls::checks::{Section, checks};
 use calls::{Answer, Call, Check, Other, Read};
 use generate::{Case, Kind};
 
 use crate::expected::{Expected, Summary};
+use crate::strips::Strips;
 
 /// What stands in a lent slice before a call.
 const BEFORE: u8 = 0xa5;
@@ -25,9 +25,10 @@ pub struct Comparison {
     by_status: BTreeMap<u32, u64>,
     /// Numbers and bytes written and returned, those that must stay as they were among them.
     compared: u64,
-    strips: u64,
+    strips: Strips,
     differences: u64,
-    first: Vec<String>,
+    /// Those of the shortest sections, with the length.
+    shortest: Vec<(usize, String)>,
     numbers: Vec<u64>,
     bytes: Vec<u8>,
 }
@@ -37,7 +38,7 @@ impl Comparison {
         self.cases += 1;
         let expected = match expected {
             Ok(expected) => expected,
-            Err(contradiction) => return self.differs(number, contradiction.clone()),
+            Err(contradiction) => return self.differs(number, case, contradiction.clone()),
         };
         each_check(case, expected, number as usize, sampled(case.section.len()), |check| {
             let whole = self.check(case, &check, usize::MAX, other);
@@ -46,15 +47,12 @@ impl Comparison {
                 self.check(case, &check, room as usize, other)
             });
             if let Some(found) = whole.or(shorter.flatten()) {
-                self.differs(number, found);
+                self.differs(number, case, found);
             }
         });
-        if let Some(expected) = &expected.strip {
-            if let Some(found) = other.strip(&case.section, case.start) {
-                self.strips += 1;
-                if let Some(found) = expected.difference(&found) {
-                    self.differs(number, format!("strip {found}"));
-                }
+        if let Some(strip) = &expected.strip {
+            for found in self.strips.case(case, strip, expected.work_places(), other) {
+                self.differs(number, case, found);
             }
         }
     }
@@ -63,11 +61,11 @@ impl Comparison {
         self.differences
     }
 
-    fn differs(&mut self, number: u64, found: String) {
+    fn differs(&mut self, number: u64, case: &Case, found: String) {
         self.differences += 1;
-        if self.first.len() < 10 {
-            self.first.push(format!("case {number}: {found}"));
-        }
+        self.shortest.push((case.section.len(), format!("case {number}, {} bytes: {found}", case.section.len())));
+        self.shortest.sort();
+        self.shortest.truncate(10);
     }
 
     /// `room` is one of a few lengths from nothing on, or more than is needed.
@@ -163,11 +161,8 @@ impl fmt::Display for Comparison {
             writeln!(f, "answered {status:2}{:31}{times:>12} calls", "")?;
         }
         writeln!(f, "{} cases, {} calls, {} numbers and bytes compared", self.cases, self.calls, self.compared)?;
-        match self.strips {
-            0 => writeln!(f, "no strips: the library has no such call")?,
-            strips => writeln!(f, "{strips} strips compared")?,
-        }
-        self.first.iter().try_for_each(|text| writeln!(f, "{text}"))?;
+        write!(f, "{}", self.strips)?;
+        self.shortest.iter().try_for_each(|(_, text)| writeln!(f, "{text}"))?;
         writeln!(f, "{} differences", self.differences)
     }
 }

@@ -21,6 +21,18 @@ pub enum Summary {
     Track(Box<Track>),
 }
 
+impl Expected {
+    /// A + B of document 01: the additional bones and morphs of a model section that is read.
+    pub fn work_places(&self) -> Option<usize> {
+        match &self.read {
+            Ok(Summary::Model(model)) => {
+                Some(model.bone_keyframe_summaries.len() + model.morph_keyframe_summaries.len())
+            }
+            _ => None,
+        }
+    }
+}
+
 /// An error tells that the Rust contradicts the walk, and so document 01.
 pub fn expected(case: &Case) -> Result<Expected, String> {
     let Case { kind, section, start, .. } = case;

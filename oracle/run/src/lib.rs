@@ -2,5 +2,6 @@
 
 pub mod compare;
 pub mod expected;
+pub mod strips;
 pub mod tally;
 pub mod vectors;

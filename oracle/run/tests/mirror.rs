@@ -3,7 +3,8 @@
 use std::collections::HashMap;
 
 use answers::{Refusal, Strip};
-use calls::{Answer, Arguments, Call, Other};
+use calls::strip::left;
+use calls::{Answer, Arguments, Call, Other, Slices};
 use generate::{Case, case};
 use run::compare::{Comparison, each_check, sampled};
 use run::expected::{Expected, expected};
@@ -12,6 +13,7 @@ use run::expected::{Expected, expected};
 struct Mirror<'a> {
     answers: HashMap<(Call, Arguments), Answer>,
     strip: Option<&'a Result<Strip, Refusal>>,
+    work_places: Option<usize>,
     change: &'a Change,
 }
 
@@ -20,7 +22,8 @@ struct Change {
     numbers: fn(Call, &mut [u64]),
     length: fn(Call, u64) -> u64,
     bytes: fn(Call, &mut [u8]),
-    strip: fn(&mut Strip),
+    strip: fn(&mut Slices),
+    strip_status: fn(u32) -> u32,
 }
 
 const SAME: Change = Change {
@@ -29,6 +32,7 @@ const SAME: Change = Change {
     length: |_, length| length,
     bytes: |_, _| (),
     strip: |_| (),
+    strip_status: |status| status,
 };
 
 impl Other for Mirror<'_> {
@@ -46,10 +50,11 @@ impl Other for Mirror<'_> {
         (self.change.length)(call, bytes.len() as u64)
     }
 
-    fn strip(&self, _: &[u8], _: u64) -> Option<Result<Strip, Refusal>> {
-        let mut strip = self.strip?.clone();
-        strip.iter_mut().for_each(self.change.strip);
-        Some(strip)
+    fn strip(&self, _: &[u8], _: u64, slices: &mut Slices) -> u32 {
+        let left = left(self.strip.expect("a model section"), self.work_places, slices);
+        *slices = left.slices;
+        (self.change.strip)(slices);
+        (self.change.strip_status)(left.status)
     }
 }
 
@@ -58,7 +63,7 @@ fn mirror<'a>(case: &Case, number: u64, expected: &'a Expected, change: &'a Chan
     each_check(case, expected, number as usize, sampled(case.section.len()), |check| {
         answers.insert((check.call, check.arguments), check.answer);
     });
-    Mirror { answers, strip: expected.strip.as_ref(), change }
+    Mirror { answers, strip: expected.strip.as_ref(), work_places: expected.work_places(), change }
 }
 
 /// How many differences some cases show.
@@ -100,5 +105,20 @@ fn changes_are_noticed() {
     assert!(differences(&Change { status: absent, ..SAME }) > 1000);
     let short = |_: Call, status: u32| if status == 1 { 2 } else { status };
     assert!(differences(&Change { status: short, ..SAME }) > 100);
-    assert!(differences(&Change { strip: |strip| strip.loose += 1, ..SAME }) > 50);
+}
+
+#[test]
+fn changes_of_strips_are_noticed() {
+    let last = |slices: &mut Slices| slices.output.iter_mut().last().into_iter().for_each(|byte| *byte ^= 1);
+    assert!(differences(&Change { strip: last, ..SAME }) > 100);
+    let first = |slices: &mut Slices| slices.first.iter_mut().take(1).for_each(|place| *place ^= 1);
+    assert!(differences(&Change { strip: first, ..SAME }) > 100);
+    let second = |slices: &mut Slices| slices.second.iter_mut().last().into_iter().for_each(|place| *place ^= 1);
+    assert!(differences(&Change { strip: second, ..SAME }) > 100);
+    let values = |slices: &mut Slices| slices.values.iter_mut().skip(2).take(1).for_each(|value| *value += 1);
+    assert!(differences(&Change { strip: values, ..SAME }) > 100);
+    let work = |status: u32| if status == 17 { 18 } else { status };
+    assert!(differences(&Change { strip_status: work, ..SAME }) > 100);
+    let output = |status: u32| if status == 18 { 0 } else { status };
+    assert!(differences(&Change { strip_status: output, ..SAME }) > 100);
 }

@@ -1,0 +1,45 @@
+-- What is said of an outcome once it is written. Assumes nothing.
+use Prim.Native.Nat.{ℕ}
+use mathlib.Core.List.{List, [], _∷_}
+use mathlib.Core.Path.{_≡_, refl, sym, ap, _∙_, subst}
+use Rattle.layout.specs.Walk.{Refusal, Answer, answered, declined}
+use Rattle.binary.specs.Answers.{because}
+use Rattle.binary.specs.declared.counts.Refusal.{Refusal as Refused}
+use Rattle.numbers.specs.Answers.{status, Refuses as RefusesPlace}
+use Rattle.numbers.specs.Put.{put}
+use Rattle.strip.specs.Call.{Built, Outcome}
+use Rattle.strip_call.specs.Answers.{stripRead, refusalRead}
+use Rattle.strip_call.specs.Outcomes.{Says}
+use Rattle.strip_call.specs.declared.answer.Strip.{Strip}
+use Rattle.strip_call.specs.declared.answer.StripRefusal.{StripRefusal}
+use Rattle.strip_export.specs.Answers.{values, numbers, written, Refuses, Leaves}
+
+-- A refusal that was told apart.
+pub told : {Q : Type 0} (says : Q → Refusal) (q case : Q) (r : ℕ) (before now : List ℕ) → q ≡ case → Refuses (says case) before r now → Refuses (says q) before r now
+told says q case r before now is said = subst (λ x. Refuses (says x) before r now) (sym is) said
+
+-- The values of a refusal of reading are places.
+pub place : (why : Refused) (r : ℕ) (before now : List ℕ) → RefusesPlace (because why) before r now → Refuses (because why) before r now
+place (Refused.TooShort at) r before now said = said
+place (Refused.NegativeCount at) r before now said = said
+place (Refused.CountAboveLimit at) r before now said = said
+place Refused.TooLong r before now said = said
+place Refused.Absent r before now said = said
+
+module _ (o : Outcome) (q : Strip) (first second output before now : List ℕ) (says : Says o q first second output) where
+  leaves : (a : Answer Built) (r : ℕ) → stripRead q ≡ a → r ≡ status a → now ≡ put 0 (written a) before → Leaves o before r first second output now
+  leaves a r is number wrote =
+      let whole : a ≡ o .answer = sym is ∙ says .answers in
+      record {
+        returns = number ∙ ap status whole;
+        leavesFirst = says .leavesFirst;
+        leavesSecond = says .leavesSecond;
+        leavesOutput = says .leavesOutput;
+        writes = wrote ∙ ap (λ (x : Answer Built). put 0 (written x) before) whole;
+      }
+
+  pub leaves-built : (length reached loose : ℕ) → q ≡ Strip.Built length reached loose → now ≡ put 0 (length ∷ reached ∷ loose ∷ []) before → Leaves o before 0 first second output now
+  leaves-built length reached loose is wrote = leaves _ 0 (ap stripRead is) refl wrote
+
+  pub leaves-refused : (why : StripRefusal) (r : ℕ) → q ≡ Strip.Refused why → Refuses (refusalRead why) before r now → Leaves o before r first second output now
+  leaves-refused why r is said = leaves _ r (ap stripRead is) (said .0) (said .1)

@@ -2,6 +2,7 @@
 //! `oracle compare [CASES] [SEED]` holds the proved library against it.
 //! `oracle vectors CRATE` writes a sample of the Rust's answers for the program that replays them.
 //! `oracle case SEED NUMBER` shows one case and what is expected of it.
+//! `oracle apart COUNT` runs the Rust alone on 340 zero bytes but for the count of additional bones, and may abort.
 
 use std::env;
 use std::path::Path;
@@ -21,9 +22,10 @@ fn main() -> ExitCode {
         (Some("compare"), _) => compare(number(1).unwrap_or(100_000), number(2).unwrap_or(1)),
         (Some("vectors"), Some(folder)) => written(vectors::write(Path::new(folder))),
         (Some("case"), _) => one(number(1).unwrap_or(1), number(2).unwrap_or(0)),
+        (Some("apart"), _) => apart(number(1).unwrap_or(i32::MAX as u64)),
         _ => {
             eprintln!("oracle self [CASES] [SEED]\noracle compare [CASES] [SEED]");
-            eprintln!("oracle vectors CRATE\noracle case SEED NUMBER");
+            eprintln!("oracle vectors CRATE\noracle case SEED NUMBER\noracle apart COUNT");
             ExitCode::FAILURE
         }
     }
@@ -102,5 +104,16 @@ fn one(seed: u64, number: u64) -> ExitCode {
             }
         }
     }
+    ExitCode::SUCCESS
+}
+
+/// Where the count of additional bones stands in 340 zero bytes.
+const ADDITIONAL_BONES: usize = 307;
+
+fn apart(count: u64) -> ExitCode {
+    let mut section = [0; 340];
+    section[ADDITIONAL_BONES..ADDITIONAL_BONES + 4].copy_from_slice(&(count as u32).to_le_bytes());
+    let read = if answers::model::summary(&section, 0).is_some() { "reads" } else { "does not read" };
+    println!("the Rust {read} {count} additional bones in 340 bytes");
     ExitCode::SUCCESS
 }

@@ -2,18 +2,17 @@
 use Prim.Native.Nat.{ℕ, zero, suc, _+_, _≤_, _<_}
 use native.Mathlib.Numerals.{add-one}
 use native.Mathlib.Omega.{arith}
-use mathlib.Core.Bool.{Bool, true, false}
+use mathlib.Core.Bool.{Bool, true}
 use mathlib.Core.List.{List, [], _∷_}
-use mathlib.Core.Option.{Option, none, some}
-use mathlib.Core.Path.{_≡_, refl, sym, ap, _∙_, subst}
+use mathlib.Core.Option.{none, some}
+use mathlib.Core.Path.{_≡_, sym, ap, _∙_, subst}
 use borrow.Author.Tests.{eq-eqb}
 use lib.Dec.{eqb}
 use lib.IntN.{pos}
 use lib.ListN.{length, getD, take, drop-of-length-le}
 use lib.Seq.{length-take-le, getD-take}
-use Rattle.layout.specs.Walk.{Refusal, answered}
 use Rattle.order.specs.Repeat.{FirstRepeat}
-use Rattle.clip.specs.First.{given, _or_, first}
+use Rattle.clip.specs.First.{given, _or_}
 use Rattle.clip.specs.Fields.{refusalOf, signed, negative}
 use Rattle.clip.specs.Keys.{bodyRefusal}
 use Rattle.clip.specs.Build.{recordsRefusal}
@@ -21,16 +20,16 @@ use Rattle.clip.proofs.First.{or-none}
 use Rattle.clip.proofs.Counting.{AllBelow}
 use Rattle.clip.proofs.Chained.{all-below}
 use Rattle.clip.proofs.Follow.{is-chain}
-use Rattle.chains.specs.Block.{Fits, kindOf, links}
+use Rattle.chains.specs.Block.{kindOf, links}
 use Rattle.chains.specs.Lookup.{Ordered}
 use Rattle.chains.specs.Fault.{faultOf, metRead, askedAt, keyMeets}
-use Rattle.chains.specs.Tracks.{meets, tracksMeet, Listed, framesOf, left}
+use Rattle.chains.specs.Tracks.{meets, tracksMeet, framesOf, left}
 use Rattle.chains.specs.Ready.{Keyed, Readies}
 use Rattle.chains.specs.declared.block.Block.{Block}
 use Rattle.chains.specs.declared.fault.Fault.{Fault}
 use Rattle.chains.specs.declared.fault.Met.{Met}
 use Rattle.chains.specs.declared.ready.Ready.{Ready}
-use Rattle.chains.proofs.Meets.{all-meet, track-more, record-meets}
+use Rattle.chains.proofs.Meets.{track-more, record-meets}
 
 -- The tracks so far meet nothing.
 pub record Tracking (s : List ℕ) (b : Block) (list₀ list : List ℕ) (met : Met) (track : ℕ) : Type 0 where

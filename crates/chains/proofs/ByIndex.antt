@@ -1,17 +1,14 @@
 -- The positions by rising index (strip, specs/Work.antt): each once, by rising keys, and so the one list that sorting gives; and what a search
 -- in them finds. Assumes nothing.
 use Prim.Native.Nat.{ℕ, zero, suc, _+_, _*_, _≤_, _<_}
-use native.Mathlib.Nat.{mul-le-mul-right, suc-mul}
 use native.Mathlib.Omega.{arith}
 use mathlib.Core.Bool.{Bool, true, false, cond}
 use mathlib.Core.List.{List, [], _∷_}
-use mathlib.Core.Option.{Option, none, some}
-use mathlib.Core.Path.{_≡_, refl, sym, ap, _∙_, subst}
-use borrow.Author.Tests.{ltb-true, ltb-false, lt-ltb, le-ltb, eqb-true, eq-eqb, ne-eqb}
+use mathlib.Core.Option.{none, some}
+use mathlib.Core.Path.{_≡_, refl, sym, _∙_, subst}
+use borrow.Author.Tests.{ltb-true, ltb-false, lt-ltb, le-ltb, eq-eqb, ne-eqb}
 use lib.Dec.{eqb, ltb}
 use lib.ListN.{length, getD}
-use Rattle.layout.specs.Walk.{u32At}
-use Rattle.order.specs.declared.field.Field.{Field}
 use Rattle.order.specs.declared.answer.Find.{Find}
 use Rattle.order.specs.Field.{numberOf, keyOf, Within}
 use Rattle.order.specs.Field as Order
@@ -27,10 +24,8 @@ use Rattle.clip.specs.Section.{additionalAt}
 use Rattle.clip.proofs.First.{none-first, none-given}
 use Rattle.clip.proofs.Indexed.{Indexed, of-record}
 use Rattle.strip.specs.Work.{inserted, byIndex}
-use Rattle.chains.specs.Block.{Fits, bodySize, links}
-use Rattle.chains.specs.Lookup.{Ordered, foundRead}
+use Rattle.chains.specs.Block.{Fits, links}
 use Rattle.chains.specs.declared.block.Block.{Block}
-use Rattle.chains.specs.declared.lookup.Found.{Found}
 
 abbrev one : Bool → ℕ
 one b = cond b 1 0

@@ -1,25 +1,25 @@
 -- The walk along a chain, step by step: the records so far are listed, and linked from the track's initial record on. Assumes nothing.
-use Prim.Native.Nat.{ℕ, zero, suc, _+_, _-_, _≤_, _<_}
+use Prim.Native.Nat.{ℕ, zero, suc, _+_, _≤_, _<_}
 use native.Mathlib.Numerals.{add-one}
 use native.Mathlib.Omega.{arith}
 use mathlib.Core.Bool.{Bool, true, false, _||_}
 use mathlib.Core.List.{List, [], _∷_, _++_}
-use mathlib.Core.Option.{Option, none, some}
-use mathlib.Core.Path.{_≡_, refl, sym, ap, _∙_, subst}
+use mathlib.Core.Option.{some}
+use mathlib.Core.Path.{_≡_, refl, sym, ap, _∙_}
 use borrow.Author.Tests.{eq-eqb, ne-eqb}
 use lib.Dec.{eqb}
 use lib.IntN.{pos}
 use lib.ListN.{length, take, set, getD, length-set, length-append}
 use lib.Seq.{take-suc-set, length-take-le, take-suc}
-use Rattle.layout.specs.Walk.{Answer, answered, declined}
+use Rattle.layout.specs.Walk.{answered, declined}
 use Rattle.clip.specs.First.{member}
-use Rattle.clip.specs.Fields.{Records, Kind, refusalOf, signed}
+use Rattle.clip.specs.Fields.{refusalOf, signed}
 use Rattle.clip.specs.Scan.{recordOf}
 use Rattle.clip.specs.Chain.{chain}
-use Rattle.clip.proofs.Indexed.{Indexed, record-of}
+use Rattle.clip.proofs.Indexed.{record-of}
 use Rattle.clip.proofs.Chained.{Linked}
-use Rattle.clip.proofs.Walked.{one-more, few, new-record, walk-ends, walk-misses, walk-cycles, walk-wrong}
-use Rattle.chains.specs.Block.{Fits, kindOf, links}
+use Rattle.clip.proofs.Walked.{one-more, few, walk-ends, walk-misses, walk-cycles, walk-wrong}
+use Rattle.chains.specs.Block.{kindOf, links}
 use Rattle.chains.specs.Lookup.{Ordered, foundRead}
 use Rattle.chains.specs.declared.block.Block.{Block}
 use Rattle.chains.specs.declared.lookup.Found.{Found}

@@ -1,24 +1,23 @@
 -- The keys of a track, asked one by one, where it is known which frame is the first to be repeated. Assumes nothing.
-use Prim.Native.Nat.{ℕ, zero, suc, _+_, _≤_, _<_}
-use native.Mathlib.Decide.{ℕ-discrete}
+use Prim.Native.Nat.{ℕ, zero, suc, _<_}
 use native.Mathlib.Omega.{arith}
-use mathlib.Core.Bool.{Bool, true, false, _||_}
-use mathlib.Core.List.{List, [], _∷_, map}
-use mathlib.Core.Option.{Option, none, some}
-use mathlib.Core.Path.{_≡_, refl, sym, ap, _∙_, subst}
-use borrow.Author.Tests.{eqb-true, eq-eqb, ne-eqb}
+use mathlib.Core.Bool.{true, false, _||_}
+use mathlib.Core.List.{List, [], _∷_}
+use mathlib.Core.Option.{Option, some}
+use mathlib.Core.Path.{_≡_, refl, sym, ap, _∙_}
+use borrow.Author.Tests.{eq-eqb, ne-eqb}
 use lib.Dec.{eqb}
 use lib.IntN.{pos}
 use lib.ListN.{length, getD, drop}
 use lib.Seq.{drop-cons}
 use Rattle.layout.specs.Walk.{Refusal}
-use Rattle.clip.specs.First.{given, _or_, member}
+use Rattle.clip.specs.First.{_or_, member}
 use Rattle.clip.specs.Fields.{Records, Kind, refusalOf, signed, negative}
-use Rattle.clip.specs.Keys.{Key, KeyTest, keyTest, bodyRefusal}
+use Rattle.clip.specs.Keys.{keyTest, bodyRefusal}
 use Rattle.clip.specs.Build.{recordKey, reachedBefore, recordsRefusal}
 use Rattle.order.specs.Repeat.{FirstRepeat}
 use Rattle.chains.specs.Tracks.{framesOf, earlier}
-use Rattle.clip.proofs.First.{below-suc, contrary, or-true, true-or}
+use Rattle.clip.proofs.First.{below-suc, true-or}
 
 module _ (f : ℕ → ℕ) where
   earlier-member : (n j i : ℕ) → i < j → f i ≡ n → member n (earlier f j) ≡ true

@@ -1,38 +1,29 @@
 -- The tracks, one by one, and the keys of a track, one by one: what is met first. Assumes nothing.
-use Prim.Native.Nat.{ℕ, zero, suc, _+_, _≤_, _<_}
+use Prim.Native.Nat.{ℕ, zero, suc, _+_, _<_}
 use native.Mathlib.Numerals.{add-one}
 use native.Mathlib.Omega.{arith}
 use mathlib.Core.Bool.{Bool, true, false}
 use mathlib.Core.List.{List, [], _∷_}
 use mathlib.Core.Option.{Option, none, some}
-use mathlib.Core.Path.{_≡_, refl, sym, ap, _∙_, subst}
-use borrow.Author.Tests.{eqb-true, eqb-false, eq-eqb, ne-eqb}
+use mathlib.Core.Path.{_≡_, refl, sym, ap, subst}
+use borrow.Author.Tests.{eqb-true, eqb-false, eq-eqb}
 use lib.Dec.{eqb}
-use lib.IntN.{pos}
-use lib.ListN.{length, getD, take, drop, drop-of-length-le}
-use lib.Seq.{getD-take, length-take-le}
-use Rattle.layout.specs.Walk.{Refusal, Answer, answered, declined}
-use Rattle.clip.specs.First.{given, _or_, first, member}
-use Rattle.clip.specs.Fields.{Records, refusalOf, signed, negative}
+use lib.ListN.{length, getD, take}
+use lib.Seq.{getD-take}
+use Rattle.layout.specs.Walk.{Refusal, declined}
+use Rattle.clip.specs.First.{_or_, first, member}
 use Rattle.clip.specs.Chain.{chain}
-use Rattle.clip.specs.Keys.{keyTest, bodyRefusal}
-use Rattle.clip.specs.Build.{initialKey, recordKey, positions, chainRefusal, chainOf, reachedBefore, recordsRefusal, trackRefusal}
-use Rattle.clip.proofs.First.{below-suc, or-none, true-or}
-use Rattle.clip.proofs.Indexed.{Indexed}
-use Rattle.clip.proofs.Chained.{Chained, all-below}
-use Rattle.clip.proofs.Follow.{is-chain}
+use Rattle.clip.specs.Keys.{keyTest}
+use Rattle.clip.specs.Build.{positions, chainOf, trackRefusal}
+use Rattle.clip.proofs.First.{below-suc, true-or}
 use Rattle.clip.proofs.Shared.{never-shared}
-use Rattle.chains.specs.Block.{Fits, kindOf, links}
+use Rattle.chains.specs.Block.{kindOf, links}
 use Rattle.chains.specs.Lookup.{Ordered}
-use Rattle.chains.specs.Walk.{walkedRead}
-use Rattle.chains.specs.Fault.{faultOf, metRead, askedAt, keyMeets}
+use Rattle.chains.specs.Fault.{askedAt, keyMeets}
 use Rattle.order.specs.Repeat.{FirstRepeat}
-use Rattle.chains.specs.Tracks.{testAt, meets, tracksMeet, Listed, framesOf, earlier, left}
+use Rattle.chains.specs.Tracks.{meets, tracksMeet, Listed, framesOf, earlier, left}
 use Rattle.chains.specs.declared.block.Block.{Block}
-use Rattle.chains.specs.declared.fault.Fault.{Fault}
-use Rattle.chains.specs.declared.fault.Met.{Met}
-use Rattle.chains.specs.declared.walk.Walked.{Walked}
-use Rattle.chains.proofs.KeysAsked.{repeated-not, repeated-is, rest, one}
+use Rattle.chains.proofs.KeysAsked.{repeated-not, repeated-is, one}
 
 -- The first that is met after none was met before.
 pub first-met : {A : Type 0} (n : ℕ) (f : ℕ → Option A) (i : ℕ) (a : A) → i < n → first i f ≡ none → f i ≡ some a → first n f ≡ some a

@@ -3,17 +3,17 @@ use Prim.Native.Nat.{ℕ, _+_, _≤_, _<_}
 use native.Mathlib.Omega.{arith}
 use mathlib.Core.Bool.{false}
 use mathlib.Core.List.{List}
-use mathlib.Core.Option.{Option, none, some}
-use mathlib.Core.Path.{_≡_, refl, sym, ap, _∙_, subst}
-use lib.ListN.{length, take}
-use Rattle.layout.specs.Walk.{Refusal, Answer, answered, declined}
+use mathlib.Core.Option.{some}
+use mathlib.Core.Path.{_≡_, sym, ap, _∙_, subst}
+use lib.ListN.{take}
+use Rattle.layout.specs.Walk.{Refusal, answered, declined}
 use Rattle.order.specs.Repeat.{FirstRepeat}
 use Rattle.clip.specs.Chain.{chain}
 use Rattle.chains.specs.Block.{kindOf, links}
 use Rattle.chains.specs.Lookup.{Ordered}
 use Rattle.chains.specs.Walk.{walkedRead, listedMany}
 use Rattle.chains.specs.Fault.{faultOf, metRead, keyMeets}
-use Rattle.chains.specs.Tracks.{meets, Listed, framesOf, left}
+use Rattle.chains.specs.Tracks.{meets, Listed, framesOf}
 use Rattle.chains.specs.Ready.{Keyed}
 use Rattle.chains.specs.declared.block.Block.{Block}
 use Rattle.chains.specs.declared.fault.Fault.{Fault}

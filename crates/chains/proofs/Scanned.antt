@@ -4,21 +4,19 @@ use native.Mathlib.Omega.{arith}
 use mathlib.Core.Bool.{Bool, true, false, cond}
 use mathlib.Core.List.{List, [], _∷_}
 use mathlib.Core.Logic.{_⊎_, inl, inr}
-use mathlib.Core.Option.{Option, none, some}
-use mathlib.Core.Path.{_≡_, refl, sym, ap, _∙_, subst}
+use mathlib.Core.Option.{none, some}
+use mathlib.Core.Path.{_≡_, refl, sym, _∙_, subst}
 use borrow.Author.Tests.{le-leb, lt-leb, lt-ltb, le-ltb, ltb-true, ltb-false, eq-eqb, ne-eqb}
 use lib.Dec.{eqb, ltb}
 use lib.IntN.{pos}
-use lib.ListN.{length}
-use Rattle.order.specs.declared.field.Field.{Field}
-use Rattle.order.specs.Field.{numberOf, keyOf}
+use Rattle.order.specs.Field.{numberOf}
 use Rattle.order.specs.Repeat.{FirstRepeat, upTo}
 use Rattle.order.specs.Sorted.{Sorted, times}
 use Rattle.order.proofs.Counted.{upTo-below, upTo-once, upTo-has}
 use Rattle.order.proofs.Laws.{sorted-strictly}
-use Rattle.order.proofs.Times.{Place, place-of}
-use Rattle.clip.specs.First.{given, _or_, first, any}
-use Rattle.clip.specs.Fields.{refusalOf, signed, negative}
+use Rattle.order.proofs.Times.{place-of}
+use Rattle.clip.specs.First.{first}
+use Rattle.clip.specs.Fields.{refusalOf, signed}
 use Rattle.clip.specs.Scan.{indexRefusal, scan}
 use Rattle.clip.specs.Section.{additionalAt}
 use Rattle.clip.proofs.First.{below-suc, none-or, none-given, none-first, false-any, true-any}

@@ -2,7 +2,6 @@
 use Prim.Native.Nat.{ℕ, _+_, _*_, _≤_}
 use mathlib.Core.List.{List}
 use lib.ListN.{length}
-use Rattle.order.specs.declared.field.Field.{Field}
 use Rattle.clip.specs.Fields.{Records, bone, morph}
 use Rattle.clip.specs.Fields as Fields
 use Rattle.clip.specs.Section.{initialAt, additionalAt}

@@ -1,9 +1,9 @@
 -- A track before its records' keys are asked. Definitions only.
-use Prim.Native.Nat.{ℕ, _+_, _≤_, _<_}
+use Prim.Native.Nat.{ℕ, _+_, _≤_}
 use mathlib.Core.List.{List}
 use mathlib.Core.Option.{some}
 use mathlib.Core.Path.{_≡_}
-use lib.ListN.{length, take}
+use lib.ListN.{take}
 use Rattle.order.specs.Repeat.{FirstRepeat}
 use Rattle.chains.specs.Block.{kindOf, links}
 use Rattle.chains.specs.Fault.{faultOf}

@@ -1,21 +1,21 @@
 -- A build asks only the tests about bodies: with each body put for another, everything else is as before. So code that knows a body by its
 -- offset builds what the bodies themselves give. Assumes nothing.
-use Prim.Native.Nat.{ℕ, zero, suc, _+_, _<_}
+use Prim.Native.Nat.{ℕ, zero, suc, _<_}
 use native.Mathlib.Omega.{arith}
-use mathlib.Core.Bool.{Bool, true, false, cond, not, _&&_}
+use mathlib.Core.Bool.{Bool, cond, not, _&&_}
 use mathlib.Core.List.{List, [], _∷_, map}
 use mathlib.Core.Option.{Option, none, some}
-use mathlib.Core.Path.{_≡_, refl, sym, ap, _∙_}
+use mathlib.Core.Path.{_≡_, refl, ap}
 use lib.Dec.{eqb}
 use lib.IntN.{pos}
 use lib.ListN.{length}
-use Rattle.layout.specs.Walk.{Refusal, Answer, answered, declined}
-use Rattle.clip.specs.First.{given, _or_, first, any, number, member, total}
+use Rattle.layout.specs.Walk.{Answer, answered}
+use Rattle.clip.specs.First.{given, _or_, first, any, member}
 use Rattle.clip.specs.Fields.{Initial, Additional, Records, Kind, refusalOf, signed}
 use Rattle.clip.specs.Scan.{indexRefusal, scan, recordOf}
 use Rattle.clip.specs.Chain.{unless, found, with, follow, chain}
 use Rattle.clip.specs.Keys.{Key, KeyTest}
-use Rattle.clip.specs.Build.{initialKey, recordKey, positions, chainRefusal, chainOf, keys, reachedBefore, reached, bothLinksZero, disconnected, linksFollowed, loose, recordsRefusal, trackRefusal, buildRefusal}
+use Rattle.clip.specs.Build.{recordKey, positions, chainOf, keys, reachedBefore, reached, bothLinksZero, disconnected, linksFollowed, loose, recordsRefusal, trackRefusal, buildRefusal}
 use Rattle.clip.proofs.Counting.{number-cong, total-cong}
 
 pub first-cong : {A : Type 0} (n : ℕ) (f g : ℕ → Option A) → ((i : ℕ) → i < n → f i ≡ g i) → first n f ≡ first n g

@@ -1,5 +1,5 @@
 -- The walk along a chain ends before its bound is used up: a greater bound changes nothing. Assumes nothing.
-use Prim.Native.Nat.{ℕ, zero, suc, _+_, _≤_, _<_}
+use Prim.Native.Nat.{ℕ, zero, suc, _+_, _<_}
 use native.Mathlib.Omega.{arith}
 use mathlib.Core.Bool.{Bool, true, false, cond, not}
 use mathlib.Core.List.{List, [], _∷_}
@@ -8,7 +8,7 @@ use mathlib.Core.Path.{_≡_, refl}
 use lib.Dec.{eqb}
 use lib.IntN.{pos}
 use lib.ListN.{length}
-use Rattle.layout.specs.Walk.{Refusal, Answer, answered, declined}
+use Rattle.layout.specs.Walk.{Refusal, Answer, answered}
 use Rattle.clip.specs.First.{given, _or_, member}
 use Rattle.clip.specs.Fields.{Records, Kind, refusalOf, signed}
 use Rattle.clip.specs.Scan.{recordOf}

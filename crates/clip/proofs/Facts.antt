@@ -1,16 +1,16 @@
 -- What holds of the records of a section that was read: their counts are within the limits, and the blocks stand one behind the other in the
 -- lent bytes. Assumes nothing.
-use Prim.Native.Nat.{ℕ, zero, suc, _+_, _*_, _≤_, _<_}
+use Prim.Native.Nat.{ℕ, zero, suc, _+_, _*_, _≤_}
 use native.Mathlib.Nat.{suc-mul, zero-mul}
 use native.Mathlib.Omega.{arith}
 use mathlib.Core.Bool.{Bool, true, false, cond}
 use mathlib.Core.List.{List, [], _∷_}
-use mathlib.Core.Path.{_≡_, refl, sym, ap, _∙_, subst}
+use mathlib.Core.Path.{_≡_, refl, sym, _∙_, subst}
 use lib.Dec.{leb, ltb}
 use lib.ListN.{length}
-use Rattle.layout.specs.Walk.{Walk, fine, refused, refusal, refusedAt, item, block, items, times, count, string, bool, u32, u8, unlimited}
+use Rattle.layout.specs.Walk.{fine, refused, refusal, refusedAt, item, block, items, times, count, string, bool, u32, u8, unlimited}
 use Rattle.layout.specs.Records.{size, initial, additional, bone, morph, model, boneState, morphState, constraintState, parentState}
-use Rattle.layout.proofs.Inversion.{Came, came, Counted, counted, same-value, item-fits}
+use Rattle.layout.proofs.Inversion.{came, counted, same-value, item-fits}
 use Rattle.section.specs.Limits.{Limits}
 use Rattle.section.specs.Model.{opening, names, entries, counts, view, scroll, front, keyframes, keyframeBlocks, states, ending, modelParts, modelSection}
 use Rattle.section.specs.declared.names.Names.{Names}

@@ -1,10 +1,10 @@
 -- The walk along a chain gives the chain, and it ends. Assumes nothing.
-use Prim.Native.Nat.{ℕ, zero, suc, _+_, _≤_, _<_}
+use Prim.Native.Nat.{ℕ, zero, suc, _<_}
 use native.Mathlib.Omega.{arith}
 use mathlib.Core.Bool.{Bool, true, false, cond, not, _||_}
 use mathlib.Core.List.{List, [], _∷_}
 use mathlib.Core.Option.{Option, none, some}
-use mathlib.Core.Path.{_≡_, refl, sym, ap, _∙_, subst}
+use mathlib.Core.Path.{_≡_, refl, sym, subst}
 use borrow.Author.Tests.{eqb-true, eqb-false, eq-eqb, ne-eqb}
 use lib.Dec.{eqb}
 use lib.IntN.{pos}
@@ -15,7 +15,7 @@ use Rattle.clip.specs.Fields.{Records, Kind, refusalOf, signed}
 use Rattle.clip.specs.Scan.{recordOf}
 use Rattle.clip.specs.Chain.{unless, found, with, follow, chain}
 use Rattle.clip.proofs.First.{contrary}
-use Rattle.clip.proofs.Counting.{Distinct, AllBelow, distinct-length}
+use Rattle.clip.proofs.Counting.{Distinct, distinct-length}
 use Rattle.clip.proofs.Indexed.{Indexed, record-of, of-record}
 use Rattle.clip.proofs.Chained.{Chained, all-below, no-repeats}
 

@@ -1,17 +1,15 @@
 -- The index scan passes exactly where the indices are in range and distinct; then the record of an index is the one that bears it.
 -- Assumes nothing.
-use Prim.Native.Nat.{ℕ, suc, _≤_, _<_, _^_}
+use Prim.Native.Nat.{ℕ, _≤_, _<_, _^_}
 use native.Mathlib.Decide.{ℕ-discrete, decLt}
 use native.Mathlib.Omega.{arith}
-use mathlib.Core.Bool.{Bool, true, false}
 use mathlib.Core.List.{[], _∷_}
-use mathlib.Core.Option.{Option, none, some}
-use mathlib.Core.Path.{_≡_, refl, sym, ap, _∙_, subst}
+use mathlib.Core.Option.{none, some}
+use mathlib.Core.Path.{_≡_, sym, _∙_, subst}
 use borrow.Author.Tests.{leb-false, lt-leb, ltb-false, le-ltb, eqb-true, eqb-false, eq-eqb, ne-eqb}
-use lib.Dec.{eqb, ltb, leb}
+use lib.Dec.{eqb, ltb}
 use lib.IntN.{pos}
-use Rattle.layout.specs.Walk.{Refusal}
-use Rattle.clip.specs.First.{given, _or_, first, any}
+use Rattle.clip.specs.First.{given, _or_, any}
 use Rattle.clip.specs.Fields.{Records, Kind, refusalOf, signed, negative}
 use Rattle.clip.specs.Scan.{indexRefusal, scan, recordOf}
 use Rattle.clip.proofs.First.{or-none, none-or, given-none, none-given, given-some, first-none, none-first, first-some, first-only, any-false, false-any}

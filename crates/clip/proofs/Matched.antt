@@ -1,6 +1,6 @@
 -- Demand 3 for the records of one kind: the second's build is accepted exactly when its unpaired records are idle, and then each track has
 -- the same keys. Assumes nothing.
-use Prim.Native.Nat.{ℕ, suc, _+_, _≤_, _<_, _^_}
+use Prim.Native.Nat.{ℕ, _<_, _^_}
 use native.Mathlib.Decide.{ℕ-discrete}
 use native.Mathlib.Omega.{arith}
 use mathlib.Core.Bool.{Bool, true, false}
@@ -10,14 +10,12 @@ use mathlib.Core.Logic.{_↔_}
 use mathlib.Core.Path.{_≡_, refl, sym, ap, _∙_, subst}
 use borrow.Author.Tests.{leb-false, lt-leb, eqb-true, eqb-false, eq-eqb}
 use lib.Dec.{eqb}
-use lib.ListN.{length, getD}
-use Rattle.layout.specs.Walk.{Answer, answered}
 use Rattle.clip.specs.First.{any, member}
-use Rattle.clip.specs.Fields.{Initial, Additional, Records, Kind}
-use Rattle.clip.specs.Keys.{Key, KeyTest}
-use Rattle.clip.specs.Build.{initialKey, recordKey, chainOf, keys, buildRefusal}
-use Rattle.clip.specs.Matched.{Matched, Idle, UnpairedIdle}
-use Rattle.clip.proofs.First.{contrary, or-true, true-or, any-true, any-false, Passes}
+use Rattle.clip.specs.Fields.{Records, Kind}
+use Rattle.clip.specs.Keys.{KeyTest}
+use Rattle.clip.specs.Build.{recordKey, keys, buildRefusal}
+use Rattle.clip.specs.Matched.{Matched, UnpairedIdle}
+use Rattle.clip.proofs.First.{contrary, or-true, true-or, any-true, any-false}
 use Rattle.clip.proofs.Counting.{AllBelow}
 use Rattle.clip.proofs.Indexed.{Indexed}
 use Rattle.clip.proofs.Chained.{Chained, all-below}

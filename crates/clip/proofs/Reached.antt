@@ -1,19 +1,15 @@
 -- "Reached plus loose is the number of additional bone and morph records", for a kind that is sound; each record lies in one chain, or is loose
 -- and in none. Assumes nothing.
-use Prim.Native.Nat.{ℕ, suc, _+_, _≤_, _<_}
+use Prim.Native.Nat.{ℕ, _+_, _≤_, _<_}
 use native.Mathlib.Omega.{arith}
-use mathlib.Core.Bool.{Bool, true, false, not, _&&_}
-use mathlib.Core.List.{List}
-use mathlib.Core.Path.{_≡_, refl, sym, ap, _∙_, subst}
-use borrow.Author.Tests.{eq-eqb}
-use lib.Dec.{eqb}
+use mathlib.Core.Bool.{true, not, _&&_}
+use mathlib.Core.Path.{_≡_}
 use lib.ListN.{length}
-use Rattle.clip.specs.First.{any, number, member, total}
+use Rattle.clip.specs.First.{number, member}
 use Rattle.clip.specs.Fields.{Records, Kind}
 use Rattle.clip.specs.Keys.{KeyTest}
 use Rattle.clip.specs.Build.{chainOf, reachedBefore, reached, bothLinksZero, disconnected, linksFollowed, loose}
-use Rattle.clip.proofs.First.{any-true, any-false, Passes}
-use Rattle.clip.proofs.Counting.{Distinct, AllBelow, distinct-length, number-any, number-zero, number-parts}
+use Rattle.clip.proofs.Counting.{Distinct, AllBelow, distinct-length, number-any, number-parts}
 use Rattle.clip.proofs.Chained.{Chained, all-below, no-repeats, one-track}
 use Rattle.clip.proofs.Sound.{Sound, chain-of, idle-left}
 

@@ -1,10 +1,10 @@
 -- 9 is never met: chains that pass share no record, whether the build is accepted or not. Assumes nothing.
 use Prim.Native.Nat.{ℕ, zero, suc, _<_}
 use native.Mathlib.Omega.{arith}
-use mathlib.Core.Bool.{Bool, true, false, cond, not, _&&_, _||_}
-use mathlib.Core.List.{List, [], _∷_, map}
+use mathlib.Core.Bool.{Bool, true, false, cond, not, _||_}
+use mathlib.Core.List.{List, [], _∷_}
 use mathlib.Core.Option.{Option, none, some}
-use mathlib.Core.Path.{_≡_, refl, sym, ap, _∙_, subst}
+use mathlib.Core.Path.{_≡_, refl, ap, _∙_}
 use borrow.Author.Tests.{eq-eqb}
 use lib.Dec.{eqb, ltb}
 use lib.IntN.{ℤ, pos}
@@ -18,9 +18,9 @@ use Rattle.clip.specs.Keys.{Key, KeyTest, keyTest, bodyRefusal, finite, 
 use Rattle.clip.specs.Build.{initialKey, recordKey, positions, chainRefusal, chainOf, reachedBefore, disconnected, recordsRefusal, trackRefusal, buildRefusal}
 use Rattle.clip.specs.Section.{bones, morphs, clipRefusal}
 use Rattle.clip.specs.Scan.{recordOf}
-use Rattle.clip.proofs.First.{contrary, true-or, first-some, given-some, false-any}
+use Rattle.clip.proofs.First.{contrary, true-or, false-any}
 use Rattle.clip.proofs.Indexed.{Indexed, scanned}
-use Rattle.clip.proofs.Chained.{Chained, one-track}
+use Rattle.clip.proofs.Chained.{one-track}
 use Rattle.clip.proofs.Follow.{is-chain}
 
 some-is : {A : Type 0} {n m : A} → some n ≡ some m → n ≡ m

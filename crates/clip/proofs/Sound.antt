@@ -1,21 +1,21 @@
 -- A build is accepted exactly where the records are sound, and that is said without any walk: indices in range and distinct, a chain for each
 -- track, keys that pass, and both links 0 in every record that no chain holds. So 9 is never met. Assumes nothing.
-use Prim.Native.Nat.{ℕ, zero, suc, _+_, _≤_, _<_}
+use Prim.Native.Nat.{ℕ, _<_}
 use native.Mathlib.Omega.{arith}
 use mathlib.Core.Bool.{Bool, true, false, not, _&&_, _||_}
 use mathlib.Core.List.{List, [], _∷_, map}
-use mathlib.Core.Option.{Option, none, some}
-use mathlib.Core.Path.{_≡_, refl, sym, ap, _∙_, subst}
+use mathlib.Core.Option.{Option, none}
+use mathlib.Core.Path.{_≡_, refl}
 use borrow.Author.Tests.{ltb-false, le-ltb, eqb-true, eq-eqb}
 use lib.Dec.{eqb, ltb}
 use lib.IntN.{pos}
 use Rattle.layout.specs.Walk.{Refusal, Answer, answered, declined}
-use Rattle.clip.specs.First.{given, _or_, first, any, number, member}
-use Rattle.clip.specs.Fields.{Initial, Additional, Records, Kind, refusalOf, signed}
+use Rattle.clip.specs.First.{given, _or_, first, member}
+use Rattle.clip.specs.Fields.{Records, Kind, refusalOf, signed}
 use Rattle.clip.specs.Scan.{scan}
 use Rattle.clip.specs.Chain.{chain}
 use Rattle.clip.specs.Keys.{Key, KeyTest}
-use Rattle.clip.specs.Build.{initialKey, recordKey, positions, chainRefusal, chainOf, keys, reachedBefore, reached, bothLinksZero, disconnected, recordsRefusal, trackRefusal, buildRefusal}
+use Rattle.clip.specs.Build.{initialKey, recordKey, positions, chainRefusal, chainOf, reachedBefore, reached, bothLinksZero, disconnected, recordsRefusal, trackRefusal, buildRefusal}
 use Rattle.clip.proofs.First.{contrary, true-or, or-none, none-or, given-none, none-given, first-none, none-first, any-false, false-any}
 use Rattle.clip.proofs.Counting.{none-pass, number-zero}
 use Rattle.clip.proofs.Indexed.{Indexed, scanned, scans}

@@ -1,11 +1,11 @@
 -- A walk along a chain, stopped after some records: what the chain then is. A record whose previous link is the one expected was not
 -- visited before, because its only predecessor would have been visited twice. Assumes nothing.
-use Prim.Native.Nat.{ℕ, zero, suc, _+_, _-_, _≤_, _<_}
+use Prim.Native.Nat.{ℕ, suc, _+_, _-_, _≤_, _<_}
 use native.Mathlib.Nat.{suc-add, zero-add}
 use native.Mathlib.Omega.{arith}
-use mathlib.Core.Bool.{Bool, true, false, not, _||_}
+use mathlib.Core.Bool.{Bool, true, false, _||_}
 use mathlib.Core.List.{List, [], _∷_, _++_, reverseAux}
-use mathlib.Core.Option.{Option, none, some}
+use mathlib.Core.Option.{none, some}
 use mathlib.Core.Path.{_≡_, refl, sym, ap, _∙_, subst}
 use borrow.Author.Tests.{eq-eqb, ne-eqb}
 use lib.Dec.{eqb}
@@ -18,10 +18,9 @@ use Rattle.clip.specs.First.{member}
 use Rattle.clip.specs.Fields.{Records, Kind, refusalOf, signed}
 use Rattle.clip.specs.Scan.{recordOf}
 use Rattle.clip.specs.Chain.{with, follow, chain}
-use Rattle.clip.proofs.First.{contrary}
 use Rattle.clip.proofs.Counting.{Distinct, AllBelow, distinct-length}
-use Rattle.clip.proofs.Indexed.{Indexed, record-of, of-record}
-use Rattle.clip.proofs.Chained.{member-place, Place, Path, one-place, path-distinct, Linked, path, closed}
+use Rattle.clip.proofs.Indexed.{Indexed, of-record}
+use Rattle.clip.proofs.Chained.{member-place, one-place, path-distinct, Linked, path, closed}
 use Rattle.clip.proofs.Follow.{Fresh, fresh-nil, fresh-cons, chain-is}
 
 abbrev withAll : List ℕ → Answer (List ℕ) → Answer (List ℕ)

@@ -1,19 +1,16 @@
 -- The work slices and the bytes of tracks, with each body put for another: only the fields of keys turn on it. Assumes nothing.
-use Prim.Native.Nat.{ℕ, zero, suc, _+_, _<_}
+use Prim.Native.Nat.{ℕ, zero, suc, _<_}
 use native.Mathlib.Omega.{arith}
-use mathlib.Core.Bool.{Bool, true, false, cond}
-use mathlib.Core.List.{List, [], _∷_, _++_, map}
-use mathlib.Core.Option.{Option}
-use mathlib.Core.Path.{_≡_, refl, sym, ap, _∙_}
-use lib.Dec.{ltb}
-use lib.ListN.{length, length-map}
-use Rattle.clip.specs.First.{given, first, member}
+use mathlib.Core.List.{List, [], _∷_, map}
+use mathlib.Core.Path.{_≡_, refl, ap}
+use lib.ListN.{length-map}
+use Rattle.clip.specs.First.{given, member}
 use Rattle.clip.specs.Fields.{Records, Kind}
 use Rattle.clip.specs.Keys.{Key}
 use Rattle.clip.specs.Build.{chainOf, keys}
 use Rattle.clip.proofs.Bodies.{keyBody, recordsBody, same-chainOf, same-keys, first-cong}
 use Rattle.strip.specs.Plain.{Group}
-use Rattle.strip.specs.Keys.{littleEndian, keyBytes}
+use Rattle.strip.specs.Keys.{keyBytes}
 use Rattle.strip.specs.Strip.{keysBytes, trackBytes, tracksBytes}
 use Rattle.strip.specs.Work.{each, inserted, byIndex, plusOne, trackMark}
 

@@ -1,10 +1,10 @@
 -- Bytes that are told apart: a list with a known length in front, and a number in little endian. Assumes nothing.
-use Prim.Native.Nat.{ℕ, zero, suc, _+_, _*_, _/_, _%_, _^_, _≤_, _<_}
+use Prim.Native.Nat.{ℕ, zero, suc, _/_, _%_, _^_, _<_}
 use native.Mathlib.Nat.{div-add-mod, pow-suc, div-lt-iff-lt-mul}
 use native.Mathlib.Omega.{arith}
 use mathlib.Core.List.{List, [], _∷_, _++_}
 use mathlib.Core.Path.{_≡_, refl, sym, ap, _∙_, subst}
-use lib.ListN.{length, length-append}
+use lib.ListN.{length}
 use Rattle.strip.specs.Keys.{littleEndian}
 
 module _ {A : Type 0} where

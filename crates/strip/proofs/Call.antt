@@ -1,16 +1,16 @@
 -- What the strip call answers, by what the build meets. Assumes nothing.
-use Prim.Native.Nat.{ℕ, _+_, _≤_, _<_}
+use Prim.Native.Nat.{ℕ, _+_}
 use native.Mathlib.Omega.{arith}
 use mathlib.Core.Bool.{Bool, true, false, cond, _||_}
-use mathlib.Core.List.{List, [], _∷_, _++_}
+use mathlib.Core.List.{List, [], _∷_}
 use mathlib.Core.Option.{Option, none, some}
-use mathlib.Core.Path.{_≡_, refl, sym, ap, _∙_, subst}
+use mathlib.Core.Path.{_≡_, refl, sym, ap, _∙_}
 use borrow.Author.Tests.{le-ltb}
 use lib.Dec.{ltb}
 use lib.IntN.{pos}
-use lib.ListN.{length, take, drop}
+use lib.ListN.{length, drop}
 use lib.Seq.{take-append-seam}
-use Rattle.layout.specs.Walk.{Refusal, refusal, Walk, fine, refused, Answer, answered, declined}
+use Rattle.layout.specs.Walk.{Refusal, refusal, Walk, fine, refused, answered}
 use Rattle.section.specs.Limits.{Limits}
 use Rattle.section.specs.Model.{modelSection}
 use Rattle.section.specs.declared.model.Model.{Model}
@@ -18,7 +18,7 @@ use Rattle.clip.specs.Section.{bones, morphs, clipRefusal, reachedRecords, loos
 use Rattle.clip.proofs.Follow.{answer-is, no-answer}
 use Rattle.strip.specs.Strip.{stripOf}
 use Rattle.strip.specs.Work.{firstWork, secondWork}
-use Rattle.strip.specs.Call.{Built, Outcome, over, untouched, zeroed, written, built, slicesTested, onceRead, stripCall}
+use Rattle.strip.specs.Call.{Built, Outcome, over, untouched, zeroed, built, slicesTested, onceRead, stripCall}
 use Rattle.strip.specs.Runs.{Lent, outcome, Within, Accepted, stripOut, LongEnough}
 
 -- What an accepted run tells.

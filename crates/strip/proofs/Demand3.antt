@@ -1,16 +1,14 @@
 -- Demand 3 (specs, Demand3). Assumes nothing.
-use Prim.Native.Nat.{ℕ, zero, suc, _+_, _^_, _≤_, _<_}
+use Prim.Native.Nat.{ℕ, suc, _^_, _<_}
 use native.Mathlib.Omega.{arith}
 use mathlib.Core.List.{List, [], _∷_, _++_, append-assoc, append-nil}
 use mathlib.Core.Logic.{_↔_}
 use mathlib.Core.Option.{none}
-use mathlib.Core.Path.{_≡_, refl, sym, ap, _∙_, subst}
-use lib.ListN.{length}
+use mathlib.Core.Path.{_≡_, sym, _∙_, subst}
 use Rattle.section.specs.Limits.{Limits, edition1}
 use Rattle.section.specs.declared.model.Model.{Model}
-use Rattle.clip.specs.First.{_or_}
-use Rattle.clip.specs.Fields.{BoneBody, Records, bone, morph}
-use Rattle.clip.specs.Keys.{Key, keyTest, poseAsked, posed, weightAsked, floatAt, boneTest, morphTest}
+use Rattle.clip.specs.Fields.{bone, morph}
+use Rattle.clip.specs.Keys.{poseAsked, posed, weightAsked, floatAt, boneTest, morphTest}
 use Rattle.clip.specs.Build.{keys, buildRefusal}
 use Rattle.clip.specs.Section.{recordsAt, bones, morphs, clipRefusal}
 use Rattle.clip.specs.Matched.{Matched, UnpairedIdle}
@@ -19,9 +17,9 @@ use Rattle.clip.proofs.Clip.{SoundClip, sound-clip}
 use Rattle.clip.proofs.Matched.{accepted-exactly, same-tracks}
 use Rattle.clip.proofs.Facts.{Blocks, blocks}
 use Rattle.strip.specs.Plain.{boneGroups, boneFields, morphGroups, morphFields}
-use Rattle.strip.specs.Keys.{littleEndian, AlikeKeys}
+use Rattle.strip.specs.Keys.{littleEndian}
 use Rattle.strip.specs.Strip.{countWidth, tracksBytes, stripOf}
-use Rattle.strip.specs.Runs.{Lent, Within, Accepted, stripOut, LongEnough, SameTracks}
+use Rattle.strip.specs.Runs.{SameTracks}
 use Rattle.strip.specs.Demand3.{MatchedSections, AcceptedSections}
 use Rattle.strip.proofs.Bytes.{counts-are}
 use Rattle.strip.proofs.Tracks.{WritableTrack, tracks-are, equal-tracks}

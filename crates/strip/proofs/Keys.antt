@@ -1,16 +1,16 @@
 -- A key's bytes tell where they end and what the key is like. Assumes nothing.
-use Prim.Native.Nat.{ℕ, zero, suc, _+_, _*_, _^_, _≤_, _<_}
+use Prim.Native.Nat.{ℕ, suc, _+_, _*_, _<_}
 use native.Mathlib.Omega.{arith}
 use mathlib.Core.Bool.{Bool, true, false, cond}
 use mathlib.Core.List.{List, [], _∷_, _++_, append-assoc}
 use mathlib.Core.Logic.{_⊎_, inl, inr}
-use mathlib.Core.Path.{_≡_, refl, sym, ap, _∙_, subst}
-use lib.ListN.{length, length-append}
+use mathlib.Core.Path.{_≡_, refl, sym, ap, _∙_}
+use lib.ListN.{length}
 use Rattle.clip.specs.Keys.{Key}
 use Rattle.strip.specs.Plain.{Group}
 use Rattle.strip.specs.Keys.{littleEndian, mapByte, present, keyBytes, SameFields, Alike, AlikeKeys}
 use Rattle.strip.specs.Strip.{keysBytes}
-use Rattle.strip.proofs.Bytes.{head-is, tail-is, front-is, length-littleEndian, counts-are}
+use Rattle.strip.proofs.Bytes.{head-is, tail-is, front-is, counts-are}
 
 -- Fields as wide as their groups.
 abbrev pub Shaped : List Group → List (List ℕ) → Type 0

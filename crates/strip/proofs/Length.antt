@@ -1,11 +1,11 @@
 -- A strip is no longer than its section. Assumes nothing.
-use Prim.Native.Nat.{ℕ, zero, suc, _+_, _*_, _≤_, _<_}
+use Prim.Native.Nat.{ℕ, zero, suc, _+_, _*_, _≤_}
 use native.Mathlib.Nat.{mul-add, mul-suc, mul-le-mul-left}
 use native.Mathlib.Omega.{arith}
 use mathlib.Core.Bool.{Bool, true, false, cond}
 use mathlib.Core.List.{List, [], _∷_, _++_, map}
 use mathlib.Core.Option.{Option, none}
-use mathlib.Core.Path.{_≡_, refl, sym, ap, _∙_, subst}
+use mathlib.Core.Path.{_≡_, ap, _∙_}
 use lib.ListN.{length, length-append, length-map}
 use Rattle.layout.specs.Walk.{fine}
 use Rattle.layout.specs.Records.{size}
@@ -15,19 +15,18 @@ use Rattle.section.specs.declared.model.Model.{Model}
 use Rattle.clip.specs.First.{total}
 use Rattle.clip.specs.Fields.{Records, Kind, bone, morph}
 use Rattle.clip.specs.Keys.{Key, KeyTest, boneTest, morphTest, poseAsked, posed, weightAsked, floatAt}
-use Rattle.clip.specs.Build.{recordKey, chainOf, keys, linksFollowed, loose}
+use Rattle.clip.specs.Build.{recordKey, chainOf, keys, linksFollowed}
 use Rattle.clip.specs.Section.{recordsAt, bones, morphs, clipRefusal}
 use Rattle.clip.proofs.Counting.{total-cong, total-front, total-suc}
 use Rattle.clip.proofs.Sound.{Sound}
 use Rattle.clip.proofs.Reached.{reached-and-loose}
-use Rattle.clip.proofs.Clip.{SoundClip, sound-clip}
-use Rattle.clip.proofs.Facts.{Block, Blocks, blocks}
+use Rattle.clip.proofs.Clip.{sound-clip}
+use Rattle.clip.proofs.Facts.{blocks}
 use Rattle.strip.specs.Plain.{Group, boneGroups, boneFields, morphGroups, morphFields}
 use Rattle.strip.specs.Keys.{littleEndian, mapByte, present, keyBytes}
 use Rattle.strip.specs.Strip.{keysBytes, trackBytes, tracksBytes, stripOf}
 use Rattle.strip.proofs.Bytes.{length-littleEndian}
-use Rattle.strip.proofs.Keys.{Shaped, Writable, AllWritable}
-use Rattle.strip.proofs.Tracks.{WritableTrack}
+use Rattle.strip.proofs.Keys.{Shaped}
 use Rattle.strip.proofs.Written.{ShapedRecords, bones-shaped, morphs-shaped}
 
 -- The widths of all groups together.

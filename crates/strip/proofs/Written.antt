@@ -1,27 +1,25 @@
 -- The tracks of an accepted build can be written: frames are not negative, fields are as wide as their groups, and no track has more keys
 -- than a count can tell. Assumes nothing.
-use Prim.Native.Nat.{ℕ, zero, suc, _+_, _*_, _^_, _≤_, _<_}
+use Prim.Native.Nat.{ℕ, suc, _^_, _<_}
 use native.Mathlib.Omega.{arith}
 use mathlib.Core.List.{List, [], _∷_, map}
-use mathlib.Core.Option.{Option, none, some}
-use mathlib.Core.Path.{_≡_, refl, sym, ap, _∙_, subst}
+use mathlib.Core.Option.{Option, none}
+use mathlib.Core.Path.{_≡_, refl}
 use borrow.Author.Tests.{leb-false}
 use lib.IntN.{pos}
-use lib.ListN.{length, length-map}
+use lib.ListN.{length-map}
 use Rattle.section.specs.Limits.{Limits}
-use Rattle.section.specs.declared.keyframes.Keyframes.{Keyframes}
 use Rattle.section.specs.declared.model.Model.{Model}
 use Rattle.clip.specs.First.{given, _or_, member}
-use Rattle.clip.specs.Fields.{Initial, Additional, BoneBody, Records, Kind, bone, morph, refusalOf, signed, negative}
-use Rattle.clip.specs.Keys.{Key, KeyTest, keyTest, bodyRefusal, boneTest, morphTest, poseAsked, posed, weightAsked, floatAt}
+use Rattle.clip.specs.Fields.{Records, Kind, bone, morph, refusalOf, signed, negative}
+use Rattle.clip.specs.Keys.{Key, keyTest, bodyRefusal, poseAsked, posed, weightAsked, floatAt}
 use Rattle.clip.specs.Build.{initialKey, recordKey, chainOf, keys}
 use Rattle.clip.specs.Section.{bytesAt, boneBody, morphBody, initialAt, additionalAt, recordsAt, bones, morphs}
 use Rattle.clip.proofs.First.{or-none, given-none}
 use Rattle.clip.proofs.Sound.{KeysPass, keysOf, Sound, chain-of}
 use Rattle.clip.proofs.Reached.{chain-length}
-use Rattle.clip.proofs.Facts.{Block, Blocks}
 use Rattle.strip.specs.Plain.{Group, boneGroups, boneFields, morphGroups, morphFields}
-use Rattle.strip.proofs.Keys.{Shaped, Writable, AllWritable}
+use Rattle.strip.proofs.Keys.{Shaped, AllWritable}
 use Rattle.strip.proofs.Tracks.{WritableTrack}
 
 pub bone-shaped : (s : List ℕ) (at : ℕ) → Shaped boneGroups (boneFields (boneBody s at))

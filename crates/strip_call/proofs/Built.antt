@@ -1,5 +1,5 @@
 -- The build of one kind, from its parts. Assumes nothing.
-use Prim.Native.Nat.{ℕ, zero, suc, _+_, _≤_, _<_}
+use Prim.Native.Nat.{ℕ, zero, suc, _≤_, _<_}
 use native.Mathlib.Omega.{arith}
 use mathlib.Core.List.{List, [], _∷_}
 use mathlib.Core.Option.{Option, none, some}
@@ -7,16 +7,15 @@ use mathlib.Core.Path.{_≡_, refl, sym, ap, _∙_, subst}
 use borrow.Author.Tests.{lt-ltb, le-ltb}
 use lib.ListN.{length, length-append}
 use Rattle.layout.specs.Walk.{Refusal, Answer, answered, declined}
-use Rattle.clip.specs.First.{given, _or_, first}
 use Rattle.clip.specs.Scan.{scan}
 use Rattle.clip.specs.Chain.{chain}
-use Rattle.clip.specs.Build.{positions, chainRefusal, chainOf, disconnected, linksFollowed, loose, trackRefusal, buildRefusal}
+use Rattle.clip.specs.Build.{positions, chainRefusal, chainOf, disconnected, loose, trackRefusal, buildRefusal}
 use Rattle.clip.proofs.First.{or-none, first-none}
 use Rattle.strip.specs.Work.{each, trackMark}
 use Rattle.chains.specs.Block.{kindOf, links}
 use Rattle.chains.specs.Fault.{faultOf, metRead}
 use Rattle.chains.specs.Lookup.{Ordered}
-use Rattle.chains.specs.Tracks.{testAt, meets, tracksMeet, AllEnd}
+use Rattle.chains.specs.Tracks.{meets, tracksMeet, AllEnd}
 use Rattle.chains.specs.declared.block.Block.{Block}
 use Rattle.chains.specs.declared.fault.Fault.{Fault}
 use Rattle.chains.specs.declared.fault.Met.{Met}

@@ -9,7 +9,7 @@ use borrow.Author.Tests.{lt-ltb, le-ltb}
 use lib.Dec.{ltb}
 use lib.IntN.{pos}
 use lib.ListN.{length}
-use Rattle.layout.specs.Walk.{Refusal, refusal, Walk, fine, refused, answered, declined}
+use Rattle.layout.specs.Walk.{refusal, fine, refused, declined}
 use Rattle.binary.specs.Answers.{because}
 use Rattle.section.specs.Limits.{edition1}
 use Rattle.section.specs.Model.{modelSection}
@@ -18,14 +18,13 @@ use Rattle.section.specs.declared.model.Model.{Model}
 use Rattle.section.specs.declared.model.ReadModel.{ReadModel}
 use Rattle.clip.specs.Section.{recordsAt, bones, morphs, clipRefusal}
 use Rattle.clip.proofs.First.{none-or}
-use Rattle.clip.proofs.Facts.{Blocks, blocks}
-use Rattle.strip.specs.Strip.{countWidth, stripOf}
-use Rattle.strip.specs.Call.{Outcome, untouched, built, slicesTested, onceRead, stripCall}
+use Rattle.clip.proofs.Facts.{blocks}
+use Rattle.strip.specs.Strip.{countWidth}
+use Rattle.strip.specs.Call.{Outcome, untouched, built, slicesTested, stripCall}
 use Rattle.strip.proofs.Length.{no-longer}
 use Rattle.chains.specs.declared.block.Block.{Block}
 use Rattle.strip_call.specs.Blocks.{boneBlock, morphBlock}
-use Rattle.strip_call.specs.Answers.{kindMeets, stripRead}
-use Rattle.strip_call.specs.Bytes.{stripBytes}
+use Rattle.strip_call.specs.Answers.{kindMeets}
 use Rattle.strip_call.specs.Outcomes.{outcomeOf, partsOf, Says, Strippable, WasRead}
 use Rattle.strip_call.specs.declared.answer.Strip.{Strip}
 use Rattle.strip_call.specs.declared.answer.StripRefusal.{StripRefusal}

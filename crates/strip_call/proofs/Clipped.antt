@@ -1,17 +1,14 @@
 -- The build of both kinds, from the build of each. Assumes nothing.
-use Prim.Native.Nat.{ℕ, _+_, _≤_, _<_}
+use Prim.Native.Nat.{ℕ, _+_}
 use native.Mathlib.Omega.{arith}
 use mathlib.Core.List.{List}
-use mathlib.Core.Option.{none}
-use mathlib.Core.Path.{_≡_, refl, sym, ap, _∙_, subst}
-use Rattle.clip.specs.Build.{linksFollowed, loose}
+use mathlib.Core.Path.{_≡_, subst}
 use Rattle.clip.proofs.Sound.{sound}
 use Rattle.clip.proofs.Reached.{reached-and-loose}
-use Rattle.chains.specs.Block.{Fits, kindOf, links}
+use Rattle.chains.specs.Block.{kindOf, links}
 use Rattle.chains.specs.Tracks.{testAt}
 use Rattle.chains.specs.declared.block.Block.{Block}
-use Rattle.strip_call.specs.Parts.{part, Outside}
-use Rattle.strip_call.specs.Answers.{kindMeets, Passed, Builds, ClipPassed, ClipBuilds}
+use Rattle.strip_call.specs.Answers.{Passed, Builds}
 use Rattle.strip_call.specs.declared.answer.BuiltKind.{BuiltKind}
 
 pub passed-all : (s : List ℕ) (b : Block) (slots marks : List ℕ) (reached left : ℕ) → Passed s b slots marks reached left → reached + left ≡ b .records .count

@@ -1,29 +1,24 @@
 -- How a run of the strip call ends, by what its parts gave. Assumes nothing.
 use Prim.Native.Nat.{ℕ, _+_, _≤_, _<_}
 use native.Mathlib.Omega.{arith}
-use mathlib.Core.List.{List, [], _∷_, _++_, append-assoc}
-use mathlib.Core.Option.{Option, none, some}
-use mathlib.Core.Path.{_≡_, refl, sym, ap, _∙_, subst}
+use mathlib.Core.List.{List, [], _∷_, _++_}
+use mathlib.Core.Option.{none, some}
+use mathlib.Core.Path.{_≡_, sym, ap, _∙_, subst}
 use borrow.Author.Tests.{lt-ltb, le-ltb}
-use lib.IntN.{pos}
-use lib.ListN.{length, take, drop, replicate, length-replicate, length-append, take-append-drop}
-use lib.Seq.{take-add, length-take-le, drop-drop}
-use Rattle.layout.specs.Walk.{refusal, Answer, answered, declined}
-use Rattle.clip.specs.First.{_or_}
-use Rattle.clip.specs.Fields.{bone, morph}
+use lib.ListN.{length, take, drop, replicate, length-replicate, take-append-drop}
+use lib.Seq.{take-add, length-take-le}
+use Rattle.layout.specs.Walk.{Answer, answered}
 use Rattle.keys.specs.Placed.{Room, Wrote}
 use Rattle.keys.proofs.Placing.{placed-first}
-use Rattle.strip.specs.Work.{each, byIndex, trackMark}
 use Rattle.strip.specs.Call.{Built, Outcome, over, zeroed}
-use Rattle.chains.specs.Block.{kindOf, links}
+use Rattle.chains.specs.Block.{kindOf}
 use Rattle.chains.specs.Fault.{faultOf}
 use Rattle.chains.specs.declared.block.Block.{Block}
-use Rattle.chains.specs.declared.block.Kind.{Kind}
 use Rattle.chains.specs.declared.fault.Fault.{Fault}
 use Rattle.strip_call.specs.Parts.{part, Outside}
-use Rattle.strip_call.specs.Answers.{kindMeets, Passed, ClipPassed, ClipBuilds, refusalRead, stripRead}
+use Rattle.strip_call.specs.Answers.{kindMeets, ClipPassed, ClipBuilds, refusalRead, stripRead}
 use Rattle.strip_call.specs.Bytes.{stripBytes, Readable}
-use Rattle.strip_call.specs.Outcomes.{Parts, outcomeBy, outcomeOf, partsOf, Says, Refuses, Strippable}
+use Rattle.strip_call.specs.Outcomes.{outcomeOf, partsOf, Says, Refuses, Strippable}
 use Rattle.strip_call.specs.declared.answer.BuiltClip.{BuiltClip}
 use Rattle.strip_call.specs.declared.answer.Strip.{Strip}
 use Rattle.strip_call.specs.declared.answer.StripRefusal.{StripRefusal}

@@ -1,11 +1,11 @@
 -- Parts of slices, lent and put back. Assumes nothing.
-use Prim.Native.Nat.{ℕ, zero, suc, _+_, _-_, _≤_, _<_}
+use Prim.Native.Nat.{ℕ, _+_, _-_, _≤_}
 use native.Mathlib.Omega.{arith}
-use mathlib.Core.List.{List, [], _∷_, _++_, append-assoc}
-use mathlib.Core.Path.{_≡_, refl, sym, ap, _∙_, subst}
+use mathlib.Core.List.{List, [], _∷_, _++_}
+use mathlib.Core.Path.{_≡_, refl, sym, ap, _∙_}
 use borrow.Rule.Slice.PartMut.{midOf, postOf, putMid, same-len-mid, mid-len, take-put, drop-put}
-use lib.ListN.{length, take, drop, length-append, take-append-drop}
-use lib.Seq.{length-take-le, take-at, drop-at, drop-drop, take-add}
+use lib.ListN.{length, take, drop}
+use lib.Seq.{length-take-le, take-at, drop-at, drop-drop}
 use Rattle.strip_call.specs.Parts.{part, Outside}
 
 module _ (from n : ℕ) (xs ys : List ℕ) (room : from + n ≤ length xs) (full : length ys ≡ n) where

@@ -2,7 +2,7 @@
 use Prim.Native.Nat.{ℕ, _+_, _-_, _≤_}
 use native.Mathlib.Omega.{arith}
 use mathlib.Core.List.{List, _++_}
-use mathlib.Core.Path.{_≡_, refl, sym, ap, _∙_, subst}
+use mathlib.Core.Path.{_≡_, ap, _∙_, subst}
 use lib.ListN.{length, take, drop, length-append}
 use Rattle.keys.specs.Placed.{placed, Room, Wrote}
 use Rattle.keys.proofs.Placing.{length-placed, room-front, room-back, wrote-then, number-wrote}
@@ -11,7 +11,6 @@ use Rattle.strip.proofs.Bytes.{length-littleEndian}
 use Rattle.chains.specs.Lookup.{Ordered}
 use Rattle.chains.specs.declared.block.Block.{Block}
 use Rattle.writing.specs.Tracks.{stripTracks}
-use Rattle.strip_call.specs.Parts.{part}
 use Rattle.strip_call.specs.Bytes.{stripBytes, Readable}
 
 module _ (s : List ℕ) (bones morphs : Block) (first : List ℕ) (r : Readable s bones morphs first) where

@@ -1,31 +1,29 @@
 -- The definition of the strip call, by what its blocks give: bodies known by their offsets make no difference. Assumes nothing.
-use Prim.Native.Nat.{ℕ, _+_, _≤_}
+use Prim.Native.Nat.{ℕ}
 use native.Mathlib.Omega.{arith}
-use mathlib.Core.List.{List, _++_}
+use mathlib.Core.List.{List}
 use mathlib.Core.Option.{Option, none, some}
-use mathlib.Core.Path.{_≡_, refl, sym, ap, _∙_, subst}
-use lib.ListN.{length}
-use Rattle.layout.specs.Walk.{Refusal, fine}
+use mathlib.Core.Path.{_≡_, refl, ap, _∙_}
+use Rattle.layout.specs.Walk.{Refusal}
 use Rattle.layout.specs.Records.{size}
-use Rattle.section.specs.Limits.{Limits, edition1}
+use Rattle.section.specs.Limits.{edition1}
 use Rattle.section.specs.declared.model.Model.{Model}
 use Rattle.clip.specs.First.{_or_}
 use Rattle.clip.specs.Fields.{bone, morph}
 use Rattle.clip.specs.Keys.{keyTest, boneTest, morphTest}
-use Rattle.clip.specs.Build.{keys, buildRefusal, linksFollowed, loose}
 use Rattle.clip.specs.Section.{boneBody, morphBody, initialAt, additionalAt, recordsAt, bones, morphs, clipRefusal, reachedRecords, looseRecords}
-use Rattle.clip.proofs.Bodies.{recordsBody, same-build, same-links, same-loose}
-use Rattle.clip.proofs.Facts.{Block, Blocks}
+use Rattle.clip.proofs.Bodies.{same-build, same-links, same-loose}
+use Rattle.clip.proofs.Facts.{Blocks}
 use Rattle.strip.specs.Plain.{boneGroups, boneFields, morphGroups, morphFields}
 use Rattle.strip.specs.Strip.{countWidth, stripOf}
-use Rattle.strip.specs.Work.{each, byIndex, trackMark, firstWork, secondWork}
-use Rattle.strip.specs.Call.{Outcome, built}
+use Rattle.strip.specs.Work.{firstWork, secondWork}
+use Rattle.strip.specs.Call.{built}
 use Rattle.strip.proofs.Bodies.{same-byIndex, same-marks, same-bytes}
 use Rattle.chains.specs.Block.{Fits, links}
 use Rattle.strip_call.specs.Blocks.{boneBlock, morphBlock}
 use Rattle.strip_call.specs.Answers.{kindMeets}
 use Rattle.strip_call.specs.Bytes.{stripBytes}
-use Rattle.strip_call.specs.Outcomes.{Parts, outcomeBy, outcomeOf, partsOf}
+use Rattle.strip_call.specs.Outcomes.{outcomeBy, outcomeOf, partsOf}
 
 module _ (s : List ℕ) (m : Model) where
   pub same-met : clipRefusal s m ≡ (kindMeets s (boneBlock m) or kindMeets s (morphBlock m))

@@ -1,20 +1,16 @@
 -- Demand 3 for any two runs of the strip call (specs, Demand3), from the contract and the theorems about the definition. Assumes nothing.
-use Prim.Native.Nat.{ℕ}
 use native.Mathlib.Omega.{arith}
-use mathlib.Core.List.{List}
-use mathlib.Core.Logic.{_↔_}
-use mathlib.Core.Path.{_≡_, refl, sym, ap, _∙_, subst}
+use mathlib.Core.Path.{_≡_, refl, sym, ap, _∙_}
 use lib.ListN.{take}
-use Rattle.layout.specs.Walk.{Answer, answered, declined}
+use Rattle.layout.specs.Walk.{answered}
 use Rattle.section.specs.Limits.{edition1}
 use Rattle.strip.specs.Strip.{countWidth}
-use Rattle.strip.specs.Call.{Built, Outcome}
-use Rattle.strip.specs.Runs.{Lent, outcome}
+use Rattle.strip.specs.Call.{Built}
 use Rattle.strip.specs.Runs as Strip1
 use Rattle.strip.proofs.Demand3.{demand3}
 use Rattle.clip.proofs.Follow.{no-answer}
 use Rattle.strip_call.specs.Answers.{stripRead}
-use Rattle.strip_call.specs.Demand3.{Run, Accepted, stripOut, ReadWithin, MatchedRuns, AcceptedRuns}
+use Rattle.strip_call.specs.Demand3.{Run, Accepted, stripOut, MatchedRuns, AcceptedRuns}
 use Rattle.strip_call.specs.declared.answer.Strip.{Strip}
 
 module _ (x : Run) where

@@ -1,23 +1,20 @@
 -- What each answer says in document 01's terms. Definitions only.
 use Prim.Native.Nat.{ℕ, _+_}
-use mathlib.Core.List.{List, [], _∷_, _++_}
+use mathlib.Core.List.{List, [], _∷_}
 use mathlib.Core.Option.{Option, none, some}
 use mathlib.Core.Path.{_≡_}
 use lib.IntN.{pos}
 use Rattle.layout.specs.Walk.{Refusal, refusal, Answer, answered, declined}
 use Rattle.binary.specs.Answers.{because}
-use Rattle.section.specs.declared.model.Model.{Model}
 use Rattle.clip.specs.Fields.{bone, morph}
 use Rattle.clip.specs.Build.{buildRefusal, linksFollowed, loose}
-use Rattle.clip.specs.Section.{clipRefusal, reachedRecords, looseRecords}
-use Rattle.strip.specs.Work.{each, byIndex, trackMark, firstWork, secondWork}
+use Rattle.strip.specs.Work.{each, trackMark}
 use Rattle.strip.specs.Call.{Built}
 use Rattle.chains.specs.Block.{kindOf, links}
 use Rattle.chains.specs.Fault.{faultOf}
 use Rattle.chains.specs.Lookup.{Ordered}
 use Rattle.chains.specs.Tracks.{testAt, AllEnd}
 use Rattle.chains.specs.declared.block.Block.{Block}
-use Rattle.chains.specs.declared.fault.Fault.{Fault}
 use Rattle.strip_call.specs.Parts.{part}
 use Rattle.strip_call.specs.declared.answer.BuiltKind.{BuiltKind}
 use Rattle.strip_call.specs.declared.answer.BuiltClip.{BuiltClip}

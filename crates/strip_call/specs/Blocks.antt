@@ -2,7 +2,6 @@
 use Prim.Native.Nat.{ℕ}
 use Rattle.layout.specs.Records.{size}
 use Rattle.layout.specs.Records as Table
-use Rattle.order.specs.declared.field.Field.{Field}
 use Rattle.section.specs.declared.keyframes.Keyframes.{Keyframes}
 use Rattle.section.specs.declared.model.Model.{Model}
 use Rattle.chains.specs.declared.block.Block.{Block}

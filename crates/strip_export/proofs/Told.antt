@@ -2,7 +2,7 @@
 use Prim.Native.Nat.{ℕ}
 use mathlib.Core.List.{List, [], _∷_}
 use mathlib.Core.Path.{_≡_, refl, sym, ap, _∙_, subst}
-use Rattle.layout.specs.Walk.{Refusal, Answer, answered, declined}
+use Rattle.layout.specs.Walk.{Refusal, Answer}
 use Rattle.binary.specs.Answers.{because}
 use Rattle.binary.specs.declared.counts.Refusal.{Refusal as Refused}
 use Rattle.numbers.specs.Answers.{status, Refuses as RefusesPlace}
@@ -12,7 +12,7 @@ use Rattle.strip_call.specs.Answers.{stripRead, refusalRead}
 use Rattle.strip_call.specs.Outcomes.{Says}
 use Rattle.strip_call.specs.declared.answer.Strip.{Strip}
 use Rattle.strip_call.specs.declared.answer.StripRefusal.{StripRefusal}
-use Rattle.strip_export.specs.Answers.{values, numbers, written, Refuses, Leaves}
+use Rattle.strip_export.specs.Answers.{written, Refuses, Leaves}
 
 -- A refusal that was told apart.
 pub told : {Q : Type 0} (says : Q → Refusal) (q case : Q) (r : ℕ) (before now : List ℕ) → q ≡ case → Refuses (says case) before r now → Refuses (says q) before r now

@@ -7,7 +7,6 @@ pub mod FirstOfAll
 pub mod Heaps
 pub mod Laws
 pub mod Neighbours
-pub mod Numbers
 pub mod Risen
 pub mod Sinks
 pub mod Swaps

@@ -62,9 +62,9 @@ placed-before place xs ys old fits =
     ap (λ (n : ℕ). drop n old) (add-assoc place (length xs) (length ys) ∙ ap (λ (n : ℕ). place + n) (sym (length-append xs ys)))
     in
     rw (joined, first, last)
-      (sym (append-assoc (take place old ++ xs) ys rest)
-      ∙ ap (λ (zs : List ℕ). zs ++ rest) (append-assoc (take place old) xs ys)
-      ∙ ap (λ (zs : List ℕ). take place old ++ (xs ++ ys) ++ zs) behind)
+    (sym (append-assoc (take place old ++ xs) ys rest)
+    ∙ ap (λ (zs : List ℕ). zs ++ rest) (append-assoc (take place old) xs ys)
+    ∙ ap (λ (zs : List ℕ). take place old ++ (xs ++ ys) ++ zs) behind)
 
 -- Stores one behind the other.
 pub stored : (vs old : List ℕ) (place : ℕ) → place + length vs ≤ length old → sets old place vs ≡ placed place vs old

@@ -8,6 +8,7 @@ pub mod Heaps
 pub mod Laws
 pub mod Neighbours
 pub mod Risen
+pub mod Settling
 pub mod Sinks
 pub mod Swaps
 pub mod Taking

@@ -28,6 +28,15 @@ fn zeros() {
     run(b"339: ", &s[0..339]);
 }
 
+fn negative_count() {
+    let mut s = [0u8; 340];
+    s[260] = 255;
+    s[261] = 255;
+    s[262] = 255;
+    s[263] = 255;
+    run(b"bone count -1: ", &s);
+}
+
 fn turned(what: &[u8], x: [u8; 2], y: [u8; 2], w: [u8; 2]) {
     let s = made::turned(x, y, w);
     run(what, &s[0..430]);
@@ -60,6 +69,7 @@ fn links() {
     linked(b"unreached, links 0 and 0: ", 0, 1, 0, 0);
 }
 
+// 17 leaves every slice as it was, so the second call is lent the same.
 fn short_work() {
     let s = made::linked(1, 1, 0, 0);
     let mut first = [7u16; 2];
@@ -70,6 +80,13 @@ fn short_work() {
         &s,
         &mut first[0..0],
         &mut second,
+        &mut output,
+    );
+    run_lent(
+        b"second slice of 0 places: ",
+        &s,
+        &mut first,
+        &mut second[0..0],
         &mut output,
     );
 }
@@ -90,6 +107,7 @@ fn short_output() {
 
 fn main() {
     zeros();
+    negative_count();
     orientations();
     links();
     short_work();

@@ -69,8 +69,7 @@ fn links() {
     linked(b"unreached, links 0 and 0: ", 0, 1, 0, 0);
 }
 
-// 17 leaves every slice as it was, so the second call is lent the same.
-fn short_work() {
+fn short_first() {
     let s = made::linked(1, 1, 0, 0);
     let mut first = [7u16; 2];
     let mut second = [7u16; 2];
@@ -82,6 +81,13 @@ fn short_work() {
         &mut second,
         &mut output,
     );
+}
+
+fn short_second() {
+    let s = made::linked(1, 1, 0, 0);
+    let mut first = [7u16; 2];
+    let mut second = [7u16; 2];
+    let mut output = [238u8; 28];
     run_lent(
         b"second slice of 0 places: ",
         &s,
@@ -110,6 +116,7 @@ fn main() {
     negative_count();
     orientations();
     links();
-    short_work();
+    short_first();
+    short_second();
     short_output();
 }

@@ -26,6 +26,7 @@ fn make_in(checks: &[u8], at: usize, section: &[u8], start: usize, tally: &mut [
     check::next(c)
 }
 
+// The check at the place. The lengths are those of what was read, so neither is longer than its space.
 fn make(section: &[u8], checks: &[u8], place: Place, tally: &mut [u64; 64]) -> Place {
     let section_length = place.section_length;
     let checks_length = place.checks_length;

@@ -2,6 +2,9 @@
 
 pub mod compare;
 pub mod expected;
+pub mod strip_cases;
+pub mod strip_vectors;
 pub mod strips;
 pub mod tally;
+pub mod vector_file;
 pub mod vectors;

@@ -1,6 +1,7 @@
 //! `oracle self [CASES] [SEED]` runs the Rust on generated cases and counts what it met.
 //! `oracle compare [CASES] [SEED]` holds the proved library against it.
-//! `oracle vectors CRATE` writes a sample of the Rust's answers for the program that replays them.
+//! `oracle vectors CRATE` writes a sample of the Rust's answers for the program that replays them, and
+//! `oracle strip-vectors CRATE` one of strip calls.
 //! `oracle case SEED NUMBER` shows one case and what is expected of it.
 //! `oracle apart COUNT` runs the Rust alone on 340 zero bytes but for the count of additional bones, and may abort.
 
@@ -12,7 +13,7 @@ use std::time::Instant;
 use generate::case;
 use run::expected::{Expected, Summary, expected};
 use run::tally::Tally;
-use run::vectors;
+use run::{strip_vectors, vectors};
 
 fn main() -> ExitCode {
     let arguments: Vec<String> = env::args().skip(1).collect();
@@ -20,12 +21,13 @@ fn main() -> ExitCode {
     match (arguments.first().map(String::as_str), arguments.get(1)) {
         (Some("self"), _) => own(number(1).unwrap_or(100_000), number(2).unwrap_or(1)),
         (Some("compare"), _) => compare(number(1).unwrap_or(100_000), number(2).unwrap_or(1)),
-        (Some("vectors"), Some(folder)) => written(vectors::write(Path::new(folder))),
+        (Some("vectors"), Some(folder)) => written(vectors::files().write(Path::new(folder))),
+        (Some("strip-vectors"), Some(folder)) => written(strip_vectors::files().write(Path::new(folder))),
         (Some("case"), _) => one(number(1).unwrap_or(1), number(2).unwrap_or(0)),
         (Some("apart"), _) => apart(number(1).unwrap_or(i32::MAX as u64)),
         _ => {
             eprintln!("oracle self [CASES] [SEED]\noracle compare [CASES] [SEED]");
-            eprintln!("oracle vectors CRATE\noracle case SEED NUMBER\noracle apart COUNT");
+            eprintln!("oracle vectors CRATE\noracle strip-vectors CRATE\noracle case SEED NUMBER\noracle apart COUNT");
             ExitCode::FAILURE
         }
     }

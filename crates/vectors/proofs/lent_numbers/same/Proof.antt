@@ -2,17 +2,20 @@
 use Prim.Native.Nat.{_-_}
 use lib.ListN.{length}
 use borrow.Author.Needs.{needs}
-use Rattle.replay.proofs.byte_calls.same.Statement.{statement}
-use Rattle.replay.proofs.byte_calls.same.Tie as tie
+use Rattle.vectors.proofs.lent_numbers.same.Statement.{statement}
+use Rattle.vectors.proofs.lent_numbers.same.Tie as tie
 
 abbrev Inv-loop : tie.InvT-loop
-Inv-loop checks first held output at₀ i₀ at i = Unit {0}
+Inv-loop checks first held lent at₀ i₀ at i = Unit {0}
 
 abbrev μ-loop : tie.MeasureT-loop
-μ-loop checks first held output at₀ i₀ at i = length output - i
+μ-loop checks first held lent at₀ i₀ at i = length lent - i
 
 loop-holds : tie.Need-loop-holds Inv-loop μ-loop
 loop-holds c = search needs
+
+mul-if1 : tie.Need-mul-if1 Inv-loop μ-loop
+mul-if1 c = search needs
 
 shared-slice-read-if1 : tie.Need-shared-slice-read-if1 Inv-loop μ-loop
 shared-slice-read-if1 c = search needs
@@ -45,6 +48,7 @@ same-spec =
     Inv-loop
     μ-loop
     loop-holds
+    mul-if1
     shared-slice-read-if1
     expected-requires
     returns

@@ -2,23 +2,26 @@
 use Prim.Native.Nat.{_-_}
 use lib.ListN.{length}
 use borrow.Author.Needs.{needs}
-use Rattle.replay.proofs.number_calls.same.Statement.{statement}
-use Rattle.replay.proofs.number_calls.same.Tie as tie
+use Rattle.vectors.proofs.lent_places.same.Statement.{statement}
+use Rattle.vectors.proofs.lent_places.same.Tie as tie
 
 abbrev Inv-loop : tie.InvT-loop
-Inv-loop checks first held values at₀ i₀ at i = Unit {0}
+Inv-loop checks first held lent at₀ i₀ at i = Unit {0}
 
 abbrev μ-loop : tie.MeasureT-loop
-μ-loop checks first held values at₀ i₀ at i = length values - i
+μ-loop checks first held lent at₀ i₀ at i = length lent - i
 
 loop-holds : tie.Need-loop-holds Inv-loop μ-loop
 loop-holds c = search needs
 
-mul-if1 : tie.Need-mul-if1 Inv-loop μ-loop
-mul-if1 c = search needs
+mul-wide : tie.Need-mul-wide Inv-loop μ-loop
+mul-wide c = search needs
 
-shared-slice-read-if1 : tie.Need-shared-slice-read-if1 Inv-loop μ-loop
-shared-slice-read-if1 c = search needs
+shared-slice-read-wide : tie.Need-shared-slice-read-wide Inv-loop μ-loop
+shared-slice-read-wide c = search needs
+
+wide-requires : tie.Need-wide-requires Inv-loop μ-loop
+wide-requires c κs = search needs
 
 expected-requires : tie.Need-expected-requires Inv-loop μ-loop
 expected-requires c κs = search needs
@@ -48,8 +51,9 @@ same-spec =
     Inv-loop
     μ-loop
     loop-holds
-    mul-if1
-    shared-slice-read-if1
+    mul-wide
+    shared-slice-read-wide
+    wide-requires
     expected-requires
     returns
     behind-requires

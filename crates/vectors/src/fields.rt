@@ -17,6 +17,22 @@ pub fn behind(at: usize, n: usize) -> usize {
     1000000
 }
 
+// The position behind n numbers of two bytes.
+pub fn behind_u16s(at: usize, n: usize) -> usize {
+    if n < 100000 {
+        return behind(at, 2 * n);
+    }
+    behind(at, 1000000)
+}
+
+// The position behind n numbers of eight bytes.
+pub fn behind_u64s(at: usize, n: usize) -> usize {
+    if n < 100000 {
+        return behind(at, 8 * n);
+    }
+    behind(at, 1000000)
+}
+
 fn joined(low: u8, high: u8) -> u64 {
     (low as u64) + 256 * (high as u64)
 }

@@ -1,4 +1,5 @@
-// Counts of checks by what they are to answer: a refusal's number, 0 where the call reads, or the row of the calls that answer bytes.
+// Counts of checks by what they are to answer: a refusal's number, 0 where the call refuses nothing, or the row of the calls that
+// answer bytes.
 use libc::STDOUT_FILENO;
 
 // How many rows there are; those of the wrong answers stand behind them.
@@ -44,7 +45,7 @@ fn say(what: &[u8], n: u64) {
     io::print_decimal(STDOUT_FILENO, n);
 }
 
-fn say_row(what: &[u8], tally: &[u64; 64], row: usize) {
+pub fn say_row(what: &[u8], tally: &[u64; 64], row: usize) {
     if row < ROWS {
         say(what, count(tally, row));
         say(b" wrong ", count(tally, row + ROWS));
@@ -52,14 +53,8 @@ fn say_row(what: &[u8], tally: &[u64; 64], row: usize) {
     }
 }
 
-pub fn say_all(tally: &[u64; 64]) {
+pub fn say_sizes(tally: &[u64; 64]) {
     say(b"sections ", count(tally, SECTIONS));
     say(b"\nchecks ", count(tally, CHECKS));
     io::write_all(STDOUT_FILENO, b"\n");
-    say_row(b"read: ", tally, 0);
-    say_row(b"refused 1: ", tally, 1);
-    say_row(b"refused 2: ", tally, 2);
-    say_row(b"refused 19: ", tally, 19);
-    say_row(b"refused 20: ", tally, 20);
-    say_row(b"bytes: ", tally, BYTES);
 }

@@ -78,3 +78,25 @@ pub fn handed(length: usize, call: impl FnOnce(&mut [u8]) -> usize) -> Vec<u8> {
     assert_eq!(call(&mut output), length, "both calls speak of the same part");
     output
 }
+
+#[cfg(test)]
+mod tests {
+    use super::Numbers;
+    use crate::{model::*, strip::Built, track::*};
+
+    /// As the headers count them.
+    #[test]
+    fn counts() {
+        assert_eq!(PmmDocumentModelSummary::COUNT, 43);
+        assert_eq!(PmmDocumentBoneKeyframeSummary::COUNT, 17);
+        assert_eq!(PmmDocumentMorphKeyframeSummary::COUNT, 10);
+        assert_eq!(PmmDocumentModelKeyframeSummary::COUNT, 18);
+        assert_eq!(PmmDocumentOutsideParentIndexSummary::COUNT, 2);
+        assert_eq!(PmmDocumentBoneStateSummary::COUNT, 10);
+        assert_eq!(PmmDocumentOutsideParentStateSummary::COUNT, 4);
+        assert_eq!(PmmDocumentTrackSummary::COUNT, 9);
+        assert_eq!(CameraKeyframeSummary::COUNT, 32);
+        assert_eq!(LightKeyframeSummary::COUNT, 20);
+        assert_eq!(Built::COUNT, 3);
+    }
+}

@@ -182,7 +182,7 @@ impl<'a> Reader<'a> {
             let at = self.at;
             let bytes = self.part(field.width(), field.words)?;
             if let Some(fault) = field.fault(bytes) {
-                return Err(Malformed { offset: at, words: format!("its {} {fault}", field.words) });
+                return Err(Malformed { offset: at, words: format!("{fault} ({})", field.words) });
             }
             found[bit] = Some(bytes);
         }
@@ -207,17 +207,17 @@ impl Field {
                     return Some(PLAIN);
                 }
                 if floats.iter().any(|float| !float.is_finite()) {
-                    return Some("is not finite");
+                    return Some("a float is not finite");
                 }
-                too_short(&floats).then_some("is too short")
+                too_short(&floats).then_some("it is too short")
             }
             Form::Curves(count) if bytes == PLAIN_CURVE.repeat(count) => Some(PLAIN),
-            Form::Curves(_) => bytes.iter().any(|byte| *byte > 127).then_some("has a byte above 127"),
+            Form::Curves(_) => bytes.iter().any(|byte| *byte > 127).then_some("a byte is above 127"),
         }
     }
 }
 
-const PLAIN: &str = "stands there though it is plain";
+const PLAIN: &str = "a plain field is written out";
 
 /// An orientation whose squared length is not above 2^-23, added up in document 01's order.
 fn too_short(floats: &[f32]) -> bool {

@@ -1,9 +1,7 @@
 //! Document 01, "Sections by hand": sections that are accepted.
 
-mod sections;
-
+use crate::sections::{bones, morphs, section};
 use limdroven::{Built, camera_keyframe, camera_summary, light_summary, model_summary, strip, strip_into};
-use sections::{bones, morphs, section};
 
 const LINKED: [i32; 4] = [0, 0, 0, 1];
 const UNLINKED: [i32; 4] = [0, 0, 0, 0];

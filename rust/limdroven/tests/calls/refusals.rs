@@ -1,12 +1,10 @@
 //! Every refusal that a small section can meet, and 16: number, kind, values and words.
 
-mod sections;
-
+use crate::sections::{bones, morphs, plain_bone, plain_morph, section, tracks};
 use generate::section::{Bone, Morph, Tracks};
 use limdroven::{
     Kind, MOST_BYTES, Refusal, bone_keyframe, camera_summary, light_summary, model_summary, strip, strip_into,
 };
-use sections::{bones, morphs, plain_bone, plain_morph, section, tracks};
 
 const LINKED: [i32; 4] = [0, 0, 0, 1];
 const UNLINKED: [i32; 4] = [0, 0, 0, 0];

@@ -7,10 +7,11 @@ use std::fmt;
 use limdroven::{Kind, MOST_BYTES};
 
 use crate::failure::{Failure, named};
+use crate::fields::{Form, fields, floats};
 use crate::input::{failed, open, read};
 use crate::json::Json;
 use crate::report::Report;
-use crate::stored::{Form, Key, Stored, fields, floats};
+use crate::stored::{Key, Stored};
 
 pub fn compare(first: &OsStr, second: &OsStr) -> Report {
     compared(first, second).unwrap_or_else(Report::from)

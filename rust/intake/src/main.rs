@@ -5,6 +5,7 @@
 
 mod compare;
 mod failure;
+mod fields;
 mod help;
 mod input;
 mod json;

@@ -6,22 +6,36 @@
 //! of these bytes. Records, states and names are asked for by number, from 0. Every call reads the section again and
 //! keeps nothing.
 //!
+//! ```
+//! let strip = limdroven::strip(&[0; 340], 0)?;
+//! assert_eq!(strip.bytes, [0; 4]);
+//! let refusal = limdroven::model_summary(&[0; 339], 0).unwrap_err();
+//! assert_eq!(refusal.to_string(), "refused 1: the bytes end before the value at offset 339 is whole");
+//! # Ok::<(), limdroven::Refusal>(())
+//! ```
+//!
 //! Outside the proofs: that the numbers which the library writes are read into structs here in the header's order, and
 //! the slices that are allocated here.
 
 #![deny(unsafe_code, missing_debug_implementations)]
 
-pub mod model;
+mod keyframes;
 mod numbers;
 #[allow(unsafe_code)]
 pub mod raw;
 mod refusal;
+mod states;
 mod strip;
-pub mod track;
+mod summary;
+mod texts;
+mod track;
 
-pub use model::*;
+pub use keyframes::*;
 pub use refusal::{Kind, Refusal};
+pub use states::*;
 pub use strip::{Built, Strip, strip, strip_into};
+pub use summary::*;
+pub use texts::*;
 pub use track::*;
 
 /// More bytes than these are refused with 16.

@@ -82,7 +82,7 @@ pub fn handed(length: usize, call: impl FnOnce(&mut [u8]) -> usize) -> Vec<u8> {
 #[cfg(test)]
 mod tests {
     use super::Numbers;
-    use crate::{model::*, strip::Built, track::*};
+    use crate::*;
 
     /// As the headers count them.
     #[test]

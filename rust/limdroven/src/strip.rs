@@ -1,9 +1,9 @@
 //! The strip call, and the strip with its slices allocated.
 
-use crate::model::model_summary;
 use crate::numbers::{answered, answers};
 use crate::raw;
 use crate::refusal::Refusal;
+use crate::summary::model_summary;
 
 answers! {
     /// What the strip call answers of a section that it accepts.

@@ -2,6 +2,7 @@
 
 mod command;
 mod compare;
+mod generated;
 mod json;
 mod list;
 mod malformed;

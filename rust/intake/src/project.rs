@@ -59,7 +59,7 @@ fn fill(input: &mut dyn Read, lent: &mut Lent) -> Result<Option<u8>, Failure> {
 fn cut(failure: Failure) -> Failure {
     match failure {
         Failure::Refused { file, model, refusal: Refusal::TooShort { .. }, hint } => {
-            Failure::Refused { file, model, refusal: Refusal::TooLong {}, hint }
+            Failure::Refused { file, model, refusal: Refusal::TooLong, hint }
         }
         other => other,
     }

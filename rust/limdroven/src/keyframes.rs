@@ -1,7 +1,7 @@
 //! Bone, morph and model records by number. `include_index` chooses the list: additional records include an index, initial
 //! ones do not. Bytes that the Rust keeps in a record's summary have calls of their own.
 
-use crate::numbers::{answered, answers, handed};
+use crate::numbers::{answers, calls, parts};
 use crate::raw;
 use crate::refusal::Refusal;
 
@@ -65,69 +65,21 @@ answers! {
     }
 }
 
-pub fn bone_keyframe(
-    section: &[u8],
-    start: usize,
-    include_index: bool,
-    number: usize,
-) -> Result<PmmDocumentBoneKeyframeSummary, Refusal> {
-    answered(|values| raw::bone_keyframe(section, start, include_index, number, values))
+calls! {
+    bone_keyframe(include_index: bool, number: usize) -> PmmDocumentBoneKeyframeSummary;
+    morph_keyframe(include_index: bool, number: usize) -> PmmDocumentMorphKeyframeSummary;
+    model_keyframe(include_index: bool, number: usize) -> PmmDocumentModelKeyframeSummary;
+    /// Bool `entry` of model record `number`.
+    model_keyframe_constraint_state(include_index: bool, number: usize, entry: usize) -> bool;
+    /// Pair `entry` of model record `number`.
+    model_keyframe_outside_parent(include_index: bool, number: usize, entry: usize) -> PmmDocumentOutsideParentIndexSummary;
 }
 
-pub fn morph_keyframe(
-    section: &[u8],
-    start: usize,
-    include_index: bool,
-    number: usize,
-) -> Result<PmmDocumentMorphKeyframeSummary, Refusal> {
-    answered(|values| raw::morph_keyframe(section, start, include_index, number, values))
-}
-
-pub fn model_keyframe(
-    section: &[u8],
-    start: usize,
-    include_index: bool,
-    number: usize,
-) -> Result<PmmDocumentModelKeyframeSummary, Refusal> {
-    answered(|values| raw::model_keyframe(section, start, include_index, number, values))
-}
-
-/// Bool `entry` of model record `number`.
-pub fn model_keyframe_constraint_state(
-    section: &[u8],
-    start: usize,
-    include_index: bool,
-    number: usize,
-    entry: usize,
-) -> Result<bool, Refusal> {
-    answered(|values| raw::model_keyframe_constraint_state(section, start, include_index, number, entry, values))
-}
-
-/// Pair `entry` of model record `number`.
-pub fn model_keyframe_outside_parent(
-    section: &[u8],
-    start: usize,
-    include_index: bool,
-    number: usize,
-    entry: usize,
-) -> Result<PmmDocumentOutsideParentIndexSummary, Refusal> {
-    answered(|values| raw::model_keyframe_outside_parent(section, start, include_index, number, entry, values))
-}
-
-/// What follows the base of a bone record.
-pub fn bone_payload(section: &[u8], start: usize, include_index: bool, number: usize) -> Result<Vec<u8>, Refusal> {
-    let length = bone_keyframe(section, start, include_index, number)?.payload_byte_length;
-    Ok(handed(length, |output| raw::bone_payload(section, start, include_index, number, output)))
-}
-
-pub fn morph_payload(section: &[u8], start: usize, include_index: bool, number: usize) -> Result<Vec<u8>, Refusal> {
-    let length = morph_keyframe(section, start, include_index, number)?.payload_byte_length;
-    Ok(handed(length, |output| raw::morph_payload(section, start, include_index, number, output)))
-}
-
-pub fn model_payload(section: &[u8], start: usize, include_index: bool, number: usize) -> Result<Vec<u8>, Refusal> {
-    let length = model_keyframe(section, start, include_index, number)?.payload_byte_length;
-    Ok(handed(length, |output| raw::model_payload(section, start, include_index, number, output)))
+parts! {
+    /// What follows the base of a bone record.
+    bone_payload(include_index: bool, number: usize) of bone_keyframe, payload_byte_length;
+    morph_payload(include_index: bool, number: usize) of morph_keyframe, payload_byte_length;
+    model_payload(include_index: bool, number: usize) of model_keyframe, payload_byte_length;
 }
 
 /// The curves of x, y, z and rotation, bytes above 127 as they are.

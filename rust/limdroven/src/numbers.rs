@@ -57,7 +57,28 @@ macro_rules! answers {
         }
     )*};
 }
-pub(crate) use answers;
+
+/// Calls that answer numbers.
+macro_rules! calls {
+    ($($(#[$about:meta])* $name:ident($($argument:ident: $type:ty),*) -> $answer:ty;)*) => {$(
+        $(#[$about])*
+        pub fn $name(section: &[u8], start: usize, $($argument: $type),*) -> Result<$answer, $crate::Refusal> {
+            $crate::numbers::answered(|values| $crate::raw::$name(section, start, $($argument,)* values))
+        }
+    )*};
+}
+
+/// Calls that hand back a part of the section; another call with the same arguments gives its length or the refusal.
+macro_rules! parts {
+    ($($(#[$about:meta])* $name:ident($($argument:ident: $type:ty),*) of $twin:ident, $length:ident;)*) => {$(
+        $(#[$about])*
+        pub fn $name(section: &[u8], start: usize, $($argument: $type),*) -> Result<Vec<u8>, $crate::Refusal> {
+            let length = $twin(section, start, $($argument),*)?.$length;
+            Ok($crate::numbers::handed(length, |output| $crate::raw::$name(section, start, $($argument,)* output)))
+        }
+    )*};
+}
+pub(crate) use {answers, calls, parts};
 
 /// The most numbers that an answer has: those of a model section's summary.
 const MOST: usize = 43;
@@ -72,10 +93,10 @@ pub fn answered<T: Numbers>(call: impl FnOnce(&mut [u64]) -> u32) -> Result<T, R
     }
 }
 
-/// The bytes of a call that hands back a part of the section, as long as the call that gave `length` says.
+/// The bytes of a part that has this length.
 pub fn handed(length: usize, call: impl FnOnce(&mut [u8]) -> usize) -> Vec<u8> {
     let mut output = vec![0; length];
-    assert_eq!(call(&mut output), length, "both calls speak of the same part");
+    assert_eq!(call(&mut output), length, "both calls are about the same part");
     output
 }
 

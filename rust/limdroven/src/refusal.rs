@@ -30,10 +30,10 @@ impl Numbers for Kind {
 
 /// The refusals with their numbers and values, fields in the order in which the library writes them.
 macro_rules! refusals {
-    ($($(#[$about:meta])* $number:literal $name:ident { $($field:ident: $type:ty),* })*) => {
+    ($($(#[$about:meta])* $number:literal $name:ident $({ $($field:ident: $type:ty),* })?)*) => {
         /// A refusal of the library. Offsets count from the start of the lent bytes.
         #[derive(Debug, Clone, Copy, PartialEq, Eq, Hash)]
-        pub enum Refusal { $($(#[$about])* $name { $($field: $type),* },)* }
+        pub enum Refusal { $($(#[$about])* $name $({ $($field: $type),* })?,)* }
 
         impl Refusal {
             /// Document 01's number.
@@ -44,8 +44,8 @@ macro_rules! refusals {
             /// Every value under its name but the kind.
             pub fn values(&self) -> Vec<(&'static str, i128)> {
                 match *self {
-                    $(Self::$name { $($field),* } => {
-                        let values: &[(&'static str, Option<i128>)] = &[$((stringify!($field), $field.value())),*];
+                    $(Self::$name $({ $($field),* })? => {
+                        let values: &[(&'static str, Option<i128>)] = &[$($((stringify!($field), $field.value())),*)?];
                         values.iter().filter_map(|(name, value)| Some((*name, (*value)?))).collect()
                     })*
                 }
@@ -54,8 +54,8 @@ macro_rules! refusals {
             /// Whose refusal it is, where it says so. 12 and 13 are met by bones alone, 14 by morphs alone.
             pub fn kind(&self) -> Option<Kind> {
                 match *self {
-                    $(Self::$name { $($field),* } => {
-                        let kinds: &[Option<Kind>] = &[$($field.kind()),*];
+                    $(Self::$name $({ $($field),* })? => {
+                        let kinds: &[Option<Kind>] = &[$($($field.kind()),*)?];
                         kinds.iter().copied().flatten().next()
                     })*
                 }
@@ -64,7 +64,7 @@ macro_rules! refusals {
             /// From what the library returned, which is not 0, and the values it wrote.
             pub(crate) fn read(number: u32, values: &mut impl Iterator<Item = u64>) -> Self {
                 match number {
-                    $($number => Self::$name { $($field: <$type>::read(values)),* },)*
+                    $($number => Self::$name $({ $($field: <$type>::read(values)),* })?,)*
                     _ => unreachable!("no call of the library returns {number}"),
                 }
             }
@@ -102,13 +102,13 @@ refusals! {
     /// Records that no chain reaches have a nonzero link.
     15 Disconnected { kind: Kind, count: usize }
     /// More bytes are lent than [`MOST_BYTES`](crate::MOST_BYTES).
-    16 TooLong {}
+    16 TooLong
     /// A work slice has too few places.
     17 WorkTooShort { need: usize }
     /// The output is shorter than the strip.
     18 OutputTooShort { need: usize }
     /// There is no record, name, state or entry of that number.
-    19 Absent {}
+    19 Absent
     /// A count is above its limit.
     20 CountAboveLimit { offset: usize }
 }
@@ -174,10 +174,10 @@ impl fmt::Display for Refusal {
             Self::Disconnected { kind, count } => {
                 write!(formatter, "no chain reaches {count} additional {kind} record(s) that have a nonzero link")
             }
-            Self::TooLong {} => write!(formatter, "more than {} bytes", crate::MOST_BYTES),
+            Self::TooLong => write!(formatter, "more than {} bytes", crate::MOST_BYTES),
             Self::WorkTooShort { need } => write!(formatter, "a work slice has fewer than the {need} places needed"),
             Self::OutputTooShort { need } => write!(formatter, "the output is shorter than the strip's {need} bytes"),
-            Self::Absent {} => write!(formatter, "there is no record, name, state or entry of that number"),
+            Self::Absent => write!(formatter, "there is no record, name, state or entry of that number"),
             Self::CountAboveLimit { offset } => write!(formatter, "the count at offset {offset} is above its limit"),
         }
     }

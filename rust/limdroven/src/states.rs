@@ -1,8 +1,6 @@
 //! The states of bones, morphs, constraints and outside parents by number.
 
-use crate::numbers::{answered, answers};
-use crate::raw;
-use crate::refusal::Refusal;
+use crate::numbers::{answers, calls};
 
 answers! {
     pub struct PmmDocumentBoneStateSummary {
@@ -29,26 +27,9 @@ answers! {
     }
 }
 
-pub fn bone_state(section: &[u8], start: usize, number: usize) -> Result<PmmDocumentBoneStateSummary, Refusal> {
-    answered(|values| raw::bone_state(section, start, number, values))
-}
-
-pub fn morph_state(section: &[u8], start: usize, number: usize) -> Result<PmmDocumentMorphStateSummary, Refusal> {
-    answered(|values| raw::morph_state(section, start, number, values))
-}
-
-pub fn constraint_state(
-    section: &[u8],
-    start: usize,
-    number: usize,
-) -> Result<PmmDocumentConstraintStateSummary, Refusal> {
-    answered(|values| raw::constraint_state(section, start, number, values))
-}
-
-pub fn outside_parent_state(
-    section: &[u8],
-    start: usize,
-    number: usize,
-) -> Result<PmmDocumentOutsideParentStateSummary, Refusal> {
-    answered(|values| raw::outside_parent_state(section, start, number, values))
+calls! {
+    bone_state(number: usize) -> PmmDocumentBoneStateSummary;
+    morph_state(number: usize) -> PmmDocumentMorphStateSummary;
+    constraint_state(number: usize) -> PmmDocumentConstraintStateSummary;
+    outside_parent_state(number: usize) -> PmmDocumentOutsideParentStateSummary;
 }

@@ -1,8 +1,6 @@
 //! The summary of a model section.
 
-use crate::numbers::{answered, answers};
-use crate::raw;
-use crate::refusal::Refusal;
+use crate::numbers::{answers, calls};
 
 answers! {
     /// Everything in a model section's summary but the lists.
@@ -55,7 +53,7 @@ answers! {
     }
 }
 
-/// The Rust's `read_document_model_summary`.
-pub fn model_summary(section: &[u8], start: usize) -> Result<PmmDocumentModelSummary, Refusal> {
-    answered(|values| raw::model_summary(section, start, values))
+calls! {
+    /// The Rust's `read_document_model_summary`.
+    model_summary() -> PmmDocumentModelSummary;
 }

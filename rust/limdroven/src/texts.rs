@@ -1,8 +1,6 @@
 //! Names and the path: where they stand, and their bytes as they are.
 
-use crate::numbers::{answered, answers, handed};
-use crate::raw;
-use crate::refusal::Refusal;
+use crate::numbers::{answers, calls, parts};
 
 answers! {
     /// Where a text stands in the lent bytes.
@@ -12,49 +10,20 @@ answers! {
     }
 }
 
-pub fn name_span(section: &[u8], start: usize) -> Result<Span, Refusal> {
-    answered(|values| raw::name_span(section, start, values))
+calls! {
+    name_span() -> Span;
+    english_name_span() -> Span;
+    path_span() -> Span;
+    bone_name_span(number: usize) -> Span;
+    morph_name_span(number: usize) -> Span;
 }
 
-pub fn english_name_span(section: &[u8], start: usize) -> Result<Span, Refusal> {
-    answered(|values| raw::english_name_span(section, start, values))
-}
-
-pub fn path_span(section: &[u8], start: usize) -> Result<Span, Refusal> {
-    answered(|values| raw::path_span(section, start, values))
-}
-
-pub fn bone_name_span(section: &[u8], start: usize, number: usize) -> Result<Span, Refusal> {
-    answered(|values| raw::bone_name_span(section, start, number, values))
-}
-
-pub fn morph_name_span(section: &[u8], start: usize, number: usize) -> Result<Span, Refusal> {
-    answered(|values| raw::morph_name_span(section, start, number, values))
-}
-
-/// The model's name, as its bytes stand.
-pub fn name(section: &[u8], start: usize) -> Result<Vec<u8>, Refusal> {
-    let Span { length, .. } = name_span(section, start)?;
-    Ok(handed(length, |output| raw::name(section, start, output)))
-}
-
-pub fn english_name(section: &[u8], start: usize) -> Result<Vec<u8>, Refusal> {
-    let Span { length, .. } = english_name_span(section, start)?;
-    Ok(handed(length, |output| raw::english_name(section, start, output)))
-}
-
-/// The path up to its first zero byte.
-pub fn path(section: &[u8], start: usize) -> Result<Vec<u8>, Refusal> {
-    let Span { length, .. } = path_span(section, start)?;
-    Ok(handed(length, |output| raw::path(section, start, output)))
-}
-
-pub fn bone_name(section: &[u8], start: usize, number: usize) -> Result<Vec<u8>, Refusal> {
-    let Span { length, .. } = bone_name_span(section, start, number)?;
-    Ok(handed(length, |output| raw::bone_name(section, start, number, output)))
-}
-
-pub fn morph_name(section: &[u8], start: usize, number: usize) -> Result<Vec<u8>, Refusal> {
-    let Span { length, .. } = morph_name_span(section, start, number)?;
-    Ok(handed(length, |output| raw::morph_name(section, start, number, output)))
+parts! {
+    /// The model's name.
+    name() of name_span, length;
+    english_name() of english_name_span, length;
+    /// The path up to its first zero byte.
+    path() of path_span, length;
+    bone_name(number: usize) of bone_name_span, length;
+    morph_name(number: usize) of morph_name_span, length;
 }

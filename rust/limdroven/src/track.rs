@@ -1,7 +1,7 @@
 //! Camera and light sections. The Rust has their records as the cases `Camera` and `Light` of `PmmDocumentKeyframeSummary`;
 //! here each is a struct, as in the crate `tracks`. `include_index` chooses the list, as in a model section.
 
-use crate::numbers::{answered, answers, handed};
+use crate::numbers::{answers, calls, parts};
 use crate::raw;
 use crate::refusal::Refusal;
 
@@ -73,45 +73,22 @@ answers! {
     }
 }
 
-/// The Rust's `read_document_camera_summary`.
-pub fn camera_summary(section: &[u8], start: usize) -> Result<PmmDocumentTrackSummary, Refusal> {
-    answered(|values| raw::camera_summary(section, start, values))
+calls! {
+    /// The Rust's `read_document_camera_summary`.
+    camera_summary() -> PmmDocumentTrackSummary;
+    /// The Rust's `read_document_light_summary`.
+    light_summary() -> PmmDocumentTrackSummary;
+    camera_keyframe(include_index: bool, number: usize) -> CameraKeyframeSummary;
+    light_keyframe(include_index: bool, number: usize) -> LightKeyframeSummary;
 }
 
-/// The Rust's `read_document_light_summary`.
-pub fn light_summary(section: &[u8], start: usize) -> Result<PmmDocumentTrackSummary, Refusal> {
-    answered(|values| raw::light_summary(section, start, values))
+parts! {
+    /// What follows the base of a camera record.
+    camera_payload(include_index: bool, number: usize) of camera_keyframe, payload_byte_length;
+    light_payload(include_index: bool, number: usize) of light_keyframe, payload_byte_length;
 }
 
-pub fn camera_keyframe(
-    section: &[u8],
-    start: usize,
-    include_index: bool,
-    number: usize,
-) -> Result<CameraKeyframeSummary, Refusal> {
-    answered(|values| raw::camera_keyframe(section, start, include_index, number, values))
-}
-
-pub fn light_keyframe(
-    section: &[u8],
-    start: usize,
-    include_index: bool,
-    number: usize,
-) -> Result<LightKeyframeSummary, Refusal> {
-    answered(|values| raw::light_keyframe(section, start, include_index, number, values))
-}
-
-/// What follows the base of a camera record.
-pub fn camera_payload(section: &[u8], start: usize, include_index: bool, number: usize) -> Result<Vec<u8>, Refusal> {
-    let length = camera_keyframe(section, start, include_index, number)?.payload_byte_length;
-    Ok(handed(length, |output| raw::camera_payload(section, start, include_index, number, output)))
-}
-
-pub fn light_payload(section: &[u8], start: usize, include_index: bool, number: usize) -> Result<Vec<u8>, Refusal> {
-    let length = light_keyframe(section, start, include_index, number)?.payload_byte_length;
-    Ok(handed(length, |output| raw::light_payload(section, start, include_index, number, output)))
-}
-
+/// The 24 bytes of a camera record's interpolation.
 pub fn camera_interpolation(
     section: &[u8],
     start: usize,

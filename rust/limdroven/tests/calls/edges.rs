@@ -104,9 +104,9 @@ fn starts_before_the_end() {
 #[test]
 fn numbers_that_no_list_has() {
     for number in [1, 2, 1 << 32, usize::MAX] {
-        assert!(of_model_by_number(&[0; 340], 0, number).into_iter().all(|answer| answer == Err(Refusal::Absent {})));
+        assert!(of_model_by_number(&[0; 340], 0, number).into_iter().all(|answer| answer == Err(Refusal::Absent)));
         let of_tracks = of_tracks_by_number(&[0; 200], 0, number);
-        assert!(of_tracks.into_iter().all(|answer| answer == Err(Refusal::Absent {})));
+        assert!(of_tracks.into_iter().all(|answer| answer == Err(Refusal::Absent)));
     }
     assert!(model_keyframe(&[0; 340], 0, false, 0).is_ok());
     assert!(camera_keyframe(&[0; 200], 0, false, 0).is_ok());

@@ -58,7 +58,7 @@ fn too_long() {
     assert_eq!(strip(&section, 0).expect("built").bytes, [0; 4]);
     section.push(0);
     tells(of_strip(&section), 16, None, &[], "more than 16777215 bytes");
-    assert_eq!(model_summary(&section, usize::MAX), Err(Refusal::TooLong {}));
+    assert_eq!(model_summary(&section, usize::MAX), Err(Refusal::TooLong));
 }
 
 #[test]

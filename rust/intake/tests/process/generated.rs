@@ -3,7 +3,7 @@
 use generate::Kind;
 use limdroven::{model_summary, strip};
 
-use crate::command::{file, intake, intake_with};
+use crate::command::{file, intake, intake_with, sample};
 
 #[test]
 fn lists() {
@@ -49,16 +49,14 @@ fn compares() {
     }
 }
 
-/// One bit of a strip changed: it differs, or is malformed.
+/// One bit of the sample's strip changed: it differs, or is malformed.
 #[test]
 fn changed_bits() {
-    let (_, case) = generate::case(21, 0);
-    let strip = strip(&case.section, case.start as usize).expect("sound");
-    assert!(strip.bytes.len() > 100);
-    let path = file("generated changed bits", &strip.bytes);
-    for at in 0..strip.bytes.len().min(150) {
+    let strip = strip(&sample("stdin"), 0).expect("built").bytes;
+    let path = file("generated changed bits", &strip);
+    for at in 0..strip.len() {
         for bit in [0, 3, 7] {
-            let mut changed = strip.bytes.clone();
+            let mut changed = strip.clone();
             changed[at] ^= 1 << bit;
             let ran = intake_with(&["compare", &path, "-"], &changed);
             assert!([1, 5].contains(&ran.status), "{at} {bit}: {ran:?}");

@@ -1,4 +1,5 @@
-//! The library's functions as C declares them, and each taking slices.
+//! The library's calls as C declares them (crates/exports/include/limdroven.h, crates/strip_export/include/limdroven_strip.h),
+//! each taking slices. What is returned and written is the library's own. All `unsafe` of the crate is here.
 
 macro_rules! declared {
     ($($symbol:ident $name:ident($($argument:ident: $type:ty),*; $slice:ident: $item:ty) -> $result:ty;)*) => {
@@ -14,8 +15,8 @@ macro_rules! declared {
         }
 
         $(pub fn $name(section: &[u8], start: usize, $($argument: $type,)* $slice: &mut [$item]) -> $result {
-            // SAFETY: both pointers are those of slices with these lengths, which live through the call; the library
-            // reads and writes nothing outside them.
+            // SAFETY: both pointers are those of slices with these lengths, which live through the call and, as one of them
+            // is borrowed mutably, do not overlap; the library reads and writes nothing outside them.
             unsafe {
                 $symbol(section.as_ptr(), section.len(), start, $($argument,)* $slice.as_mut_ptr(), $slice.len())
             }
@@ -57,4 +58,47 @@ declared! {
     limdroven_light_payload light_payload(include_index: bool, number: usize; output: u8) -> usize;
     limdroven_camera_interpolation camera_interpolation(include_index: bool, number: usize; output: u8) -> usize;
     limdroven_bone_interpolation bone_interpolation(include_index: bool, number: usize; output: u8) -> usize;
+}
+
+unsafe extern "C" {
+    fn limdroven_strip(
+        section: *const u8,
+        section_length: usize,
+        start: usize,
+        first: *mut u16,
+        first_length: usize,
+        second: *mut u16,
+        second_length: usize,
+        output: *mut u8,
+        output_length: usize,
+        values: *mut u64,
+        values_length: usize,
+    ) -> u32;
+}
+
+pub fn strip(
+    section: &[u8],
+    start: usize,
+    first: &mut [u16],
+    second: &mut [u16],
+    output: &mut [u8],
+    values: &mut [u64],
+) -> u32 {
+    // SAFETY: the pointers are those of slices with these lengths, which live through the call and, as all but the section
+    // are borrowed mutably, do not overlap; the library reads and writes nothing outside them.
+    unsafe {
+        limdroven_strip(
+            section.as_ptr(),
+            section.len(),
+            start,
+            first.as_mut_ptr(),
+            first.len(),
+            second.as_mut_ptr(),
+            second.len(),
+            output.as_mut_ptr(),
+            output.len(),
+            values.as_mut_ptr(),
+            values.len(),
+        )
+    }
 }

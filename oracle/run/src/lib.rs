@@ -1,7 +1,9 @@
 //! Cases run through the Rust, held against another implementation, and written down to be replayed.
 
+pub mod bench;
 pub mod compare;
 pub mod expected;
 pub mod strips;
 pub mod tally;
+pub mod timing;
 pub mod vectors;

@@ -1,5 +1,6 @@
 //! `oracle self [CASES] [SEED]` runs the Rust on generated cases and counts what it met.
 //! `oracle compare [CASES] [SEED]` holds the proved library against it.
+//! `oracle bench` times both on the same sections; `oracle profile SHAPE N` makes one strip call on one of them.
 //! `oracle vectors CRATE` writes a sample of the Rust's answers for the program that replays them.
 //! `oracle case SEED NUMBER` shows one case and what is expected of it.
 //! `oracle apart COUNT` runs the Rust alone on 340 zero bytes but for the count of additional bones, and may abort.
@@ -20,11 +21,15 @@ fn main() -> ExitCode {
     match (arguments.first().map(String::as_str), arguments.get(1)) {
         (Some("self"), _) => own(number(1).unwrap_or(100_000), number(2).unwrap_or(1)),
         (Some("compare"), _) => compare(number(1).unwrap_or(100_000), number(2).unwrap_or(1)),
+        (Some("bench"), _) => bench(),
+        (Some("profile"), Some(shape)) => profile(shape, number(2).unwrap_or(10_000)),
         (Some("vectors"), Some(folder)) => written(vectors::write(Path::new(folder))),
         (Some("case"), _) => one(number(1).unwrap_or(1), number(2).unwrap_or(0)),
         (Some("apart"), _) => apart(number(1).unwrap_or(i32::MAX as u64)),
         _ => {
-            eprintln!("oracle self [CASES] [SEED]\noracle compare [CASES] [SEED]");
+            eprintln!(
+                "oracle self [CASES] [SEED]\noracle compare [CASES] [SEED]\noracle bench\noracle profile SHAPE N"
+            );
             eprintln!("oracle vectors CRATE\noracle case SEED NUMBER\noracle apart COUNT");
             ExitCode::FAILURE
         }
@@ -61,8 +66,43 @@ fn compare(cases: u64, seed: u64) -> ExitCode {
     if comparison.differences() == 0 { ExitCode::SUCCESS } else { ExitCode::FAILURE }
 }
 
+#[cfg(feature = "library")]
+fn bench() -> ExitCode {
+    run::bench::bench(&library::Library);
+    ExitCode::SUCCESS
+}
+
+#[cfg(feature = "library")]
+fn profile(shape: &str, n: u64) -> ExitCode {
+    match run::bench::profile(&library::Library, shape, n as usize) {
+        Ok(told) => {
+            println!("{told}");
+            ExitCode::SUCCESS
+        }
+        Err(names) => {
+            eprintln!("the shapes: {names}");
+            ExitCode::FAILURE
+        }
+    }
+}
+
 #[cfg(not(feature = "library"))]
 fn compare(_: u64, _: u64) -> ExitCode {
+    without_library()
+}
+
+#[cfg(not(feature = "library"))]
+fn bench() -> ExitCode {
+    without_library()
+}
+
+#[cfg(not(feature = "library"))]
+fn profile(_: &str, _: u64) -> ExitCode {
+    without_library()
+}
+
+#[cfg(not(feature = "library"))]
+fn without_library() -> ExitCode {
     eprintln!("built without the feature `library`");
     ExitCode::FAILURE
 }

@@ -18,7 +18,9 @@ const NUMBERS: usize = 64;
 const BYTES: usize = 64;
 
 pub fn bench(other: &impl Other) {
-    println!("Nanoseconds a key, where a key is an initial or additional record; medians of 3 to 11 rounds.");
+    println!(
+        "Nanoseconds of processor time a key, where a key is an initial or additional record; medians of 3 to 11 rounds."
+    );
     reading(other);
     println!("\nSection to strip, sections that are accepted");
     strips(other, &ACCEPTED, &SIZES);

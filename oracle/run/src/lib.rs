@@ -1,8 +1,10 @@
 //! Cases run through the Rust, held against another implementation, and written down to be replayed.
 
 pub mod bench;
+pub mod clock;
 pub mod compare;
 pub mod expected;
+pub mod seeds;
 pub mod strips;
 pub mod tally;
 pub mod timing;

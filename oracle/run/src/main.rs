@@ -2,6 +2,7 @@
 //! `oracle compare [CASES] [SEED]` holds the proved library against it.
 //! `oracle bench` times both on the same sections; `oracle profile SHAPE N` makes one strip call on one of them.
 //! `oracle vectors CRATE` writes a sample of the Rust's answers for the program that replays them.
+//! `oracle seeds FOLDER [FILES] [SEED]` writes generated sections as files for the fuzzer.
 //! `oracle case SEED NUMBER` shows one case and what is expected of it.
 //! `oracle apart COUNT` runs the Rust alone on 340 zero bytes but for the count of additional bones, and may abort.
 
@@ -13,7 +14,7 @@ use std::time::Instant;
 use generate::case;
 use run::expected::{Expected, Summary, expected};
 use run::tally::Tally;
-use run::vectors;
+use run::{seeds, vectors};
 
 fn main() -> ExitCode {
     let arguments: Vec<String> = env::args().skip(1).collect();
@@ -24,13 +25,18 @@ fn main() -> ExitCode {
         (Some("bench"), _) => bench(),
         (Some("profile"), Some(shape)) => profile(shape, number(2).unwrap_or(10_000)),
         (Some("vectors"), Some(folder)) => written(vectors::write(Path::new(folder))),
+        (Some("seeds"), Some(folder)) => {
+            written(seeds::write(Path::new(folder), number(2).unwrap_or(2_000), number(3).unwrap_or(1)))
+        }
         (Some("case"), _) => one(number(1).unwrap_or(1), number(2).unwrap_or(0)),
         (Some("apart"), _) => apart(number(1).unwrap_or(i32::MAX as u64)),
         _ => {
             eprintln!(
                 "oracle self [CASES] [SEED]\noracle compare [CASES] [SEED]\noracle bench\noracle profile SHAPE N"
             );
-            eprintln!("oracle vectors CRATE\noracle case SEED NUMBER\noracle apart COUNT");
+            eprintln!(
+                "oracle vectors CRATE\noracle seeds FOLDER [FILES] [SEED]\noracle case SEED NUMBER\noracle apart COUNT"
+            );
             ExitCode::FAILURE
         }
     }

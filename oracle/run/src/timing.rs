@@ -1,7 +1,10 @@
-//! Time taken by pieces of work that are done in turns, so that a busy moment of the machine falls on all of them.
+//! Processor time of pieces of work that are done in turns, so that a busy moment of the machine falls on all of them. Time in
+//! which other work has the core does not count.
 
 use std::hint::black_box;
 use std::time::Instant;
+
+use crate::clock::processor_time;
 
 const MOST_ROUNDS: usize = 11;
 const FEWEST_ROUNDS: usize = 3;
@@ -33,9 +36,9 @@ fn each<T, const N: usize>(work: &mut [&mut dyn FnMut(); N], mut of: impl FnMut(
 }
 
 fn nanoseconds(repeats: usize, work: &mut dyn FnMut()) -> f64 {
-    let began = Instant::now();
+    let began = processor_time();
     (0..repeats).for_each(|_| work());
-    began.elapsed().as_nanos() as f64 / repeats as f64
+    (processor_time() - began) as f64 / repeats as f64
 }
 
 fn median(mut times: Vec<f64>) -> f64 {

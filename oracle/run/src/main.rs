@@ -1,5 +1,6 @@
 //! `oracle self [CASES] [SEED]` runs the Rust on generated cases and counts what it met.
 //! `oracle compare [CASES] [SEED]` holds the proved library against it.
+//! `oracle sample [CASES] [SEED]` does so with a sample of the calls, to take in more cases.
 //! `oracle bench` times both on the same sections; `oracle profile SHAPE N` makes one strip call on one of them.
 //! `oracle vectors CRATE` writes a sample of the Rust's answers for the program that replays them.
 //! `oracle seeds FOLDER [FILES] [SEED]` writes generated sections as files for the fuzzer.
@@ -12,16 +13,21 @@ use std::process::ExitCode;
 use std::time::Instant;
 
 use generate::case;
+use run::compare::Extent;
 use run::expected::{Expected, Summary, expected};
 use run::tally::Tally;
 use run::{seeds, vectors};
+
+/// `oracle sample` makes one in so many of the calls besides the summary and the strip call.
+const SAMPLED: u64 = 16;
 
 fn main() -> ExitCode {
     let arguments: Vec<String> = env::args().skip(1).collect();
     let number = |n: usize| arguments.get(n).and_then(|word| word.parse().ok());
     match (arguments.first().map(String::as_str), arguments.get(1)) {
         (Some("self"), _) => own(number(1).unwrap_or(100_000), number(2).unwrap_or(1)),
-        (Some("compare"), _) => compare(number(1).unwrap_or(100_000), number(2).unwrap_or(1)),
+        (Some("compare"), _) => compare(number(1).unwrap_or(100_000), number(2).unwrap_or(1), Extent::Whole),
+        (Some("sample"), _) => compare(number(1).unwrap_or(100_000), number(2).unwrap_or(1), Extent::Sampled(SAMPLED)),
         (Some("bench"), _) => bench(),
         (Some("profile"), Some(shape)) => profile(shape, number(2).unwrap_or(10_000)),
         (Some("vectors"), Some(folder)) => written(vectors::write(Path::new(folder))),
@@ -32,7 +38,7 @@ fn main() -> ExitCode {
         (Some("apart"), _) => apart(number(1).unwrap_or(i32::MAX as u64)),
         _ => {
             eprintln!(
-                "oracle self [CASES] [SEED]\noracle compare [CASES] [SEED]\noracle bench\noracle profile SHAPE N"
+                "oracle self [CASES] [SEED]\noracle compare [CASES] [SEED]\noracle sample [CASES] [SEED]\noracle bench\noracle profile SHAPE N"
             );
             eprintln!(
                 "oracle vectors CRATE\noracle seeds FOLDER [FILES] [SEED]\noracle case SEED NUMBER\noracle apart COUNT"
@@ -56,11 +62,11 @@ fn own(cases: u64, seed: u64) -> ExitCode {
 }
 
 #[cfg(feature = "library")]
-fn compare(cases: u64, seed: u64) -> ExitCode {
+fn compare(cases: u64, seed: u64, extent: Extent) -> ExitCode {
     println!("seed {seed}, {cases} cases");
     let began = Instant::now();
     let mut tally = Tally::default();
-    let mut comparison = run::compare::Comparison::default();
+    let mut comparison = run::compare::Comparison::new(extent);
     for number in 0..cases {
         let (family, case) = case(seed, number);
         let expected = expected(&case);
@@ -93,7 +99,7 @@ fn profile(shape: &str, n: u64) -> ExitCode {
 }
 
 #[cfg(not(feature = "library"))]
-fn compare(_: u64, _: u64) -> ExitCode {
+fn compare(_: u64, _: u64, _: Extent) -> ExitCode {
     without_library()
 }
 

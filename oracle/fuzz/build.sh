@@ -3,6 +3,7 @@
 #   fuzz     libFuzzer with the library's own code instrumented: coverage and comparisons guide it, and each load and store of the library and of
 #            the harness is checked (AddressSanitizer)
 #   replay   the same harness with the release archives as they are, each slice against a page that cannot be touched
+#   heap     the same with slices from the heap, for valgrind
 set -eu
 [ $# -eq 1 ] || { echo "build.sh FOLDER" >&2; exit 2; }
 cd "$1"
@@ -28,6 +29,10 @@ for source in $sources; do
 done
 (cd "$folder" && clang -fsanitize=fuzzer,address reading.c.o building.c.o lend.c.o harness.c.o exports.o strip_export.o -o fuzz)
 archives=../../target/staticlib
-# shellcheck disable=SC2086
-clang -std=c11 -g -O2 -Wall -Wextra -ffp-contract=off $sources replay.c "$archives/libexports.a" "$archives/libstrip_export.a" -o "$folder/replay"
-echo "$folder/fuzz and $folder/replay"
+for name in replay heap; do
+    [ $name = heap ] && how=-DHEAP || how=
+    # shellcheck disable=SC2086
+    clang -std=c11 -gdwarf-4 -O2 -Wall -Wextra -ffp-contract=off $how $sources replay.c "$archives/libexports.a" "$archives/libstrip_export.a" \
+        -o "$folder/$name"
+done
+echo "$folder: fuzz, replay, heap"

@@ -5,6 +5,7 @@ pub mod large;
 pub mod prng;
 pub mod refusals;
 pub mod section;
+pub mod shapes;
 pub mod sound;
 pub mod values;
 

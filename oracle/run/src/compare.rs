@@ -17,8 +17,19 @@ pub const BEFORE_NUMBER: u64 = 0xa5a5_a5a5_a5a5_a5a5;
 /// A second call in so many checks is made with a shorter slice.
 const SHORTER_EVERY: u64 = 4;
 
-#[derive(Default)]
+/// How much of a case is compared.
+#[derive(Debug, Clone, Copy, PartialEq, Eq)]
+pub enum Extent {
+    /// Every check, and the strip call with all slices of `strips`.
+    Whole,
+    /// The summary, one in so many of the other checks, and the strip call with longer slices and with one other choice in turn.
+    Sampled(u64),
+}
+
 pub struct Comparison {
+    extent: Extent,
+    /// Checks that were met, made or not.
+    met: u64,
     cases: u64,
     calls: u64,
     by_call: BTreeMap<Call, u64>,
@@ -34,13 +45,35 @@ pub struct Comparison {
 }
 
 impl Comparison {
+    pub fn new(extent: Extent) -> Self {
+        Self {
+            extent,
+            met: 0,
+            cases: 0,
+            calls: 0,
+            by_call: BTreeMap::new(),
+            by_status: BTreeMap::new(),
+            compared: 0,
+            strips: Strips::default(),
+            differences: 0,
+            shortest: Vec::new(),
+            numbers: Vec::new(),
+            bytes: Vec::new(),
+        }
+    }
+
     pub fn case(&mut self, number: u64, case: &Case, expected: &Result<Expected, String>, other: &impl Other) {
         self.cases += 1;
         let expected = match expected {
             Ok(expected) => expected,
             Err(contradiction) => return self.differs(number, case, contradiction.clone()),
         };
+        let mut first = true;
         each_check(case, expected, number as usize, sampled(case.section.len()), |check| {
+            let summary = std::mem::replace(&mut first, false);
+            if !self.made(summary) {
+                return;
+            }
             let whole = self.check(case, &check, usize::MAX, other);
             let shorter = self.calls.is_multiple_of(SHORTER_EVERY).then(|| {
                 let room = self.calls / SHORTER_EVERY % 6;
@@ -51,9 +84,18 @@ impl Comparison {
             }
         });
         if let Some(strip) = &expected.strip {
-            for found in self.strips.case(case, strip, expected.work_places(), other) {
+            for found in self.strips.case(case, strip, expected.work_places(), self.extent, other) {
                 self.differs(number, case, found);
             }
+        }
+    }
+
+    /// A summary is a case's first check.
+    fn made(&mut self, summary: bool) -> bool {
+        self.met += 1;
+        match self.extent {
+            Extent::Whole => true,
+            Extent::Sampled(every) => summary || self.met.is_multiple_of(every),
         }
     }
 
@@ -159,6 +201,9 @@ impl fmt::Display for Comparison {
         }
         for (status, times) in &self.by_status {
             writeln!(f, "answered {status:2}{:31}{times:>12} calls", "")?;
+        }
+        if let Extent::Sampled(every) = self.extent {
+            writeln!(f, "{} calls to make, of which the summaries and one in {every} were made", self.met)?;
         }
         writeln!(f, "{} cases, {} calls, {} numbers and bytes compared", self.cases, self.calls, self.compared)?;
         write!(f, "{}", self.strips)?;

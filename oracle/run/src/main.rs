@@ -1,7 +1,10 @@
 //! `oracle self [CASES] [SEED]` runs the Rust on generated cases and counts what it met.
 //! `oracle compare [CASES] [SEED]` holds the proved library against it.
+//! `oracle sample [CASES] [SEED]` does so with a sample of the calls, to take in more cases.
+//! `oracle bench` times both on the same sections; `oracle profile SHAPE N` makes one strip call on one of them.
 //! `oracle vectors CRATE` writes a sample of the Rust's answers for the program that replays them, and
 //! `oracle strip-vectors CRATE` one of strip calls.
+//! `oracle seeds FOLDER [FILES] [SEED]` writes generated sections as files for the fuzzer.
 //! `oracle case SEED NUMBER` shows one case and what is expected of it.
 //! `oracle apart COUNT` runs the Rust alone on 340 zero bytes but for the count of additional bones, and may abort.
 
@@ -11,23 +14,37 @@ use std::process::ExitCode;
 use std::time::Instant;
 
 use generate::case;
+use run::compare::Extent;
 use run::expected::{Expected, Summary, expected};
 use run::tally::Tally;
-use run::{strip_vectors, vectors};
+use run::{seeds, strip_vectors, vectors};
+
+/// `oracle sample` makes one in so many of the calls besides the summary and the strip call.
+const SAMPLED: u64 = 16;
 
 fn main() -> ExitCode {
     let arguments: Vec<String> = env::args().skip(1).collect();
     let number = |n: usize| arguments.get(n).and_then(|word| word.parse().ok());
     match (arguments.first().map(String::as_str), arguments.get(1)) {
         (Some("self"), _) => own(number(1).unwrap_or(100_000), number(2).unwrap_or(1)),
-        (Some("compare"), _) => compare(number(1).unwrap_or(100_000), number(2).unwrap_or(1)),
+        (Some("compare"), _) => compare(number(1).unwrap_or(100_000), number(2).unwrap_or(1), Extent::Whole),
+        (Some("sample"), _) => compare(number(1).unwrap_or(100_000), number(2).unwrap_or(1), Extent::Sampled(SAMPLED)),
+        (Some("bench"), _) => bench(),
+        (Some("profile"), Some(shape)) => profile(shape, number(2).unwrap_or(10_000)),
         (Some("vectors"), Some(folder)) => written(vectors::files().write(Path::new(folder))),
         (Some("strip-vectors"), Some(folder)) => written(strip_vectors::files().write(Path::new(folder))),
+        (Some("seeds"), Some(folder)) => {
+            written(seeds::write(Path::new(folder), number(2).unwrap_or(2_000), number(3).unwrap_or(1)))
+        }
         (Some("case"), _) => one(number(1).unwrap_or(1), number(2).unwrap_or(0)),
         (Some("apart"), _) => apart(number(1).unwrap_or(i32::MAX as u64)),
         _ => {
-            eprintln!("oracle self [CASES] [SEED]\noracle compare [CASES] [SEED]");
-            eprintln!("oracle vectors CRATE\noracle strip-vectors CRATE\noracle case SEED NUMBER\noracle apart COUNT");
+            eprintln!(
+                "oracle self [CASES] [SEED]\noracle compare [CASES] [SEED]\noracle sample [CASES] [SEED]\noracle bench\noracle profile SHAPE N"
+            );
+            eprintln!(
+                "oracle vectors CRATE\noracle strip-vectors CRATE\noracle seeds FOLDER [FILES] [SEED]\noracle case SEED NUMBER\noracle apart COUNT"
+            );
             ExitCode::FAILURE
         }
     }
@@ -47,11 +64,11 @@ fn own(cases: u64, seed: u64) -> ExitCode {
 }
 
 #[cfg(feature = "library")]
-fn compare(cases: u64, seed: u64) -> ExitCode {
+fn compare(cases: u64, seed: u64, extent: Extent) -> ExitCode {
     println!("seed {seed}, {cases} cases");
     let began = Instant::now();
     let mut tally = Tally::default();
-    let mut comparison = run::compare::Comparison::default();
+    let mut comparison = run::compare::Comparison::new(extent);
     for number in 0..cases {
         let (family, case) = case(seed, number);
         let expected = expected(&case);
@@ -63,8 +80,43 @@ fn compare(cases: u64, seed: u64) -> ExitCode {
     if comparison.differences() == 0 { ExitCode::SUCCESS } else { ExitCode::FAILURE }
 }
 
+#[cfg(feature = "library")]
+fn bench() -> ExitCode {
+    run::bench::bench(&library::Library);
+    ExitCode::SUCCESS
+}
+
+#[cfg(feature = "library")]
+fn profile(shape: &str, n: u64) -> ExitCode {
+    match run::bench::profile(&library::Library, shape, n as usize) {
+        Ok(told) => {
+            println!("{told}");
+            ExitCode::SUCCESS
+        }
+        Err(names) => {
+            eprintln!("the shapes: {names}");
+            ExitCode::FAILURE
+        }
+    }
+}
+
 #[cfg(not(feature = "library"))]
-fn compare(_: u64, _: u64) -> ExitCode {
+fn compare(_: u64, _: u64, _: Extent) -> ExitCode {
+    without_library()
+}
+
+#[cfg(not(feature = "library"))]
+fn bench() -> ExitCode {
+    without_library()
+}
+
+#[cfg(not(feature = "library"))]
+fn profile(_: &str, _: u64) -> ExitCode {
+    without_library()
+}
+
+#[cfg(not(feature = "library"))]
+fn without_library() -> ExitCode {
     eprintln!("built without the feature `library`");
     ExitCode::FAILURE
 }

@@ -6,7 +6,7 @@ use answers::{Refusal, Strip};
 use calls::strip::left;
 use calls::{Answer, Arguments, Call, Other, Slices};
 use generate::{Case, case};
-use run::compare::{Comparison, each_check, sampled};
+use run::compare::{Comparison, Extent, each_check, sampled};
 use run::expected::{Expected, expected};
 
 /// The answers expected of a case, given back with a change.
@@ -68,7 +68,7 @@ fn mirror<'a>(case: &Case, number: u64, expected: &'a Expected, change: &'a Chan
 
 /// How many differences some cases show.
 fn differences(change: &Change) -> u64 {
-    let mut comparison = Comparison::default();
+    let mut comparison = Comparison::new(Extent::Whole);
     for number in 0..300 {
         let case = case(5, number).1;
         let expected = expected(&case).expect("no contradiction");

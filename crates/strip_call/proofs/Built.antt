@@ -21,7 +21,7 @@ use Rattle.chains.specs.declared.fault.Fault.{Fault}
 use Rattle.chains.specs.declared.fault.Met.{Met}
 use Rattle.marks.specs.Marks.{countsOf}
 use Rattle.marks.specs.declared.counts.Counts.{Counts}
-use Rattle.strip_call.specs.Answers.{kindMeets, Passed}
+use Rattle.strip_call.specs.Building.{kindMeets, Passed}
 
 module _ (s : List ℕ) (b : Block) where
   -- What a call that tells of refusals answers.

@@ -24,8 +24,9 @@ use Rattle.strip.specs.Call.{Outcome, untouched, built, slicesTested, stripCall
 use Rattle.strip.proofs.Length.{no-longer}
 use Rattle.chains.specs.declared.block.Block.{Block}
 use Rattle.strip_call.specs.Blocks.{boneBlock, morphBlock}
-use Rattle.strip_call.specs.Answers.{kindMeets}
-use Rattle.strip_call.specs.Outcomes.{outcomeOf, partsOf, Says, Strippable, WasRead}
+use Rattle.strip_call.specs.Answers.{Says}
+use Rattle.strip_call.specs.Building.{kindMeets}
+use Rattle.strip_call.specs.Outcomes.{outcomeOf, partsOf, Strippable, WasRead}
 use Rattle.strip_call.specs.declared.answer.Strip.{Strip}
 use Rattle.strip_call.specs.declared.answer.StripRefusal.{StripRefusal}
 use Rattle.strip_call.proofs.Same.{same-met, same-strip, same-outcome, bones-stand, morphs-stand}

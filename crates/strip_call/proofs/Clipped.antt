@@ -8,7 +8,7 @@ use Rattle.clip.proofs.Reached.{reached-and-loose}
 use Rattle.chains.specs.Block.{kindOf, links}
 use Rattle.chains.specs.Tracks.{testAt}
 use Rattle.chains.specs.declared.block.Block.{Block}
-use Rattle.strip_call.specs.Answers.{Passed, Builds}
+use Rattle.strip_call.specs.Building.{Passed, Builds}
 use Rattle.strip_call.specs.declared.answer.BuiltKind.{BuiltKind}
 
 pub passed-all : (s : List ℕ) (b : Block) (slots marks : List ℕ) (reached left : ℕ) → Passed s b slots marks reached left → reached + left ≡ b .records .count

@@ -16,9 +16,10 @@ use Rattle.chains.specs.Fault.{faultOf}
 use Rattle.chains.specs.declared.block.Block.{Block}
 use Rattle.chains.specs.declared.fault.Fault.{Fault}
 use Rattle.strip_call.specs.Parts.{part, Outside}
-use Rattle.strip_call.specs.Answers.{kindMeets, ClipPassed, ClipBuilds, refusalRead, stripRead}
+use Rattle.strip_call.specs.Answers.{refusalRead, stripRead, Says}
+use Rattle.strip_call.specs.Building.{kindMeets, ClipPassed, ClipBuilds}
+use Rattle.strip_call.specs.Outcomes.{outcomeOf, partsOf, Refuses, Strippable}
 use Rattle.strip_call.specs.Bytes.{stripBytes, Readable}
-use Rattle.strip_call.specs.Outcomes.{outcomeOf, partsOf, Says, Refuses, Strippable}
 use Rattle.strip_call.specs.declared.answer.BuiltClip.{BuiltClip}
 use Rattle.strip_call.specs.declared.answer.Strip.{Strip}
 use Rattle.strip_call.specs.declared.answer.StripRefusal.{StripRefusal}

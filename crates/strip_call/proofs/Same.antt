@@ -21,9 +21,9 @@ use Rattle.strip.specs.Call.{built}
 use Rattle.strip.proofs.Bodies.{same-byIndex, same-marks, same-bytes}
 use Rattle.chains.specs.Block.{Fits, links}
 use Rattle.strip_call.specs.Blocks.{boneBlock, morphBlock}
-use Rattle.strip_call.specs.Answers.{kindMeets}
-use Rattle.strip_call.specs.Bytes.{stripBytes}
+use Rattle.strip_call.specs.Building.{kindMeets}
 use Rattle.strip_call.specs.Outcomes.{outcomeBy, outcomeOf, partsOf}
+use Rattle.strip_call.specs.Bytes.{stripBytes}
 
 module _ (s : List ℕ) (m : Model) where
   pub same-met : clipRefusal s m ≡ (kindMeets s (boneBlock m) or kindMeets s (morphBlock m))

@@ -9,7 +9,7 @@ use Rattle.clip.specs.Section.{bones, morphs}
 use Rattle.clip.specs.Matched.{Matched, UnpairedIdle}
 use Rattle.strip.specs.Strip.{countWidth}
 use Rattle.strip.specs.Runs.{Lent, outcome, Within, LongEnough, SameTracks}
-use Rattle.strip_call.specs.Outcomes.{Says}
+use Rattle.strip_call.specs.Answers.{Says}
 use Rattle.strip_call.specs.declared.answer.Strip.{Strip}
 
 -- A run: what was lent, what was answered, and what the slices held afterwards. `says` is the call's contract, word for word.

@@ -1,4 +1,5 @@
--- The strip call's outcome from what its parts give. Definitions only.
+-- The strip call's outcome told over the blocks' offsets, for the private functions: proofs/Same has it equal to that of the strip's
+-- definitions. Definitions only.
 use Prim.Native.Nat.{ℕ, _+_, _≤_}
 use mathlib.Core.Bool.{cond}
 use mathlib.Core.List.{List, [], _∷_, _++_}
@@ -18,7 +19,7 @@ use Rattle.strip.specs.Call.{Outcome, over, zeroed}
 use Rattle.chains.specs.Block.{Fits, kindOf, links}
 use Rattle.chains.specs.declared.block.Block.{Block}
 use Rattle.chains.specs.declared.block.Kind.{Kind}
-use Rattle.strip_call.specs.Answers.{kindMeets, stripRead}
+use Rattle.strip_call.specs.Building.{kindMeets}
 use Rattle.strip_call.specs.Bytes.{stripBytes}
 use Rattle.strip_call.specs.declared.answer.Strip.{Strip}
 use Rattle.strip_call.specs.declared.answer.StripRefusal.{StripRefusal}
@@ -60,13 +61,6 @@ partsOf s bones morphs =
       firstWork = byIndex (links s bones) (bones .records .count) ++ byIndex (links s morphs) (morphs .records .count);
       secondWork = each (bones .records .count) (trackMark (kindOf (bones .kind)) (links s bones)) ++ each (morphs .records .count) (trackMark (kindOf (morphs .kind)) (links s morphs));
     }
-
--- What a run leaves is what the outcome says.
-pub record Says (o : Outcome) (r : Strip) (first second output : List ℕ) : Type 0 where
-  pub answers : stripRead r ≡ o .answer
-  pub leavesFirst : first ≡ o .first
-  pub leavesSecond : second ≡ o .second
-  pub leavesOutput : output ≡ o .output
 
 -- A refusal that leaves the first places of both work slices 0.
 pub record Refuses (why : StripRefusal) (need : ℕ) (first second : List ℕ) (r : Strip) (first′ second′ : List ℕ) : Type 0 where

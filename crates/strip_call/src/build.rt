@@ -2,7 +2,7 @@
 ghost use mathlib.Core.Path.{_≡_};
 ghost use lib.ListN.{length};
 ghost use Rattle.chains.specs.Block.{Fits};
-ghost use Rattle.strip_call.specs.Answers.{Builds};
+ghost use Rattle.strip_call.specs.Building.{Builds};
 use crate::answer::BuiltKind;
 use chains::block::Block;
 use chains::fault::Fault;

@@ -3,7 +3,7 @@ ghost use mathlib.Core.Path.{_≡_};
 ghost use Prim.Native.Nat.{_+_, _≤_};
 ghost use lib.ListN.{length};
 ghost use Rattle.chains.specs.Block.{Fits};
-ghost use Rattle.strip_call.specs.Answers.{Builds, ClipBuilds};
+ghost use Rattle.strip_call.specs.Building.{Builds, ClipBuilds};
 ghost use Rattle.strip_call.specs.Parts.{part, Outside};
 use crate::answer::BuiltClip;
 use crate::answer::BuiltKind;

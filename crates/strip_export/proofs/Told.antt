@@ -8,8 +8,7 @@ use Rattle.binary.specs.declared.counts.Refusal.{Refusal as Refused}
 use Rattle.numbers.specs.Answers.{status, Refuses as RefusesPlace}
 use Rattle.numbers.specs.Put.{put}
 use Rattle.strip.specs.Call.{Built, Outcome}
-use Rattle.strip_call.specs.Answers.{stripRead, refusalRead}
-use Rattle.strip_call.specs.Outcomes.{Says}
+use Rattle.strip_call.specs.Answers.{stripRead, refusalRead, Says}
 use Rattle.strip_call.specs.declared.answer.Strip.{Strip}
 use Rattle.strip_call.specs.declared.answer.StripRefusal.{StripRefusal}
 use Rattle.strip_export.specs.Answers.{written, Refuses, Leaves}

@@ -3,7 +3,7 @@ use Rattle.strip_call.proofs.Clipped.{passed-all, counted, kept}
 use Rattle.strip_call.proofs.PartLaws.{outside-first, outside-both}
 use Rattle.strip_call.specs.declared.answer.BuiltKind.{BuiltKind}
 use Rattle.strip_call.specs.Parts.{part}
-use Rattle.strip_call.specs.Answers.{Builds}
+use Rattle.strip_call.specs.Building.{Builds}
 use mathlib.Core.Path.{refl, subst}
 use native.Mathlib.Omega.{arith}
 use borrow.Author.Needs.{needs}

@@ -1,7 +1,7 @@
 -- `build_part` meets its contract. Assumes nothing.
 use Rattle.strip_call.proofs.PartLaws.{part-full, part-put, outside-put}
 use Rattle.strip_call.specs.Parts.{part}
-use Rattle.strip_call.specs.Answers.{Builds}
+use Rattle.strip_call.specs.Building.{Builds}
 use borrow.Rule.Slice.PartMut.{putMid}
 use mathlib.Core.Path.{sym, _∙_, subst}
 use mathlib.Core.List.{List}

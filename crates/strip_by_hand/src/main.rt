@@ -1,8 +1,9 @@
 // Document 01, "Sections by hand": the cases of the strip call, run. Each line has the answer, the two work slices and the output
 // afterwards. Before the call every place of the work slices is 7 and every byte of the output ee.
-mod made;
 mod say;
 
+use sections_by_hand::bones;
+use sections_by_hand::empty;
 use strip_call::call;
 
 fn run_lent(what: &[u8], section: &[u8], first: &mut [u16], second: &mut [u16], output: &mut [u8]) {
@@ -23,22 +24,18 @@ fn run(what: &[u8], section: &[u8]) {
 }
 
 fn zeros() {
-    let s = [0u8; 340];
+    let s = empty::zeros();
     run(b"340 zero bytes: ", &s);
     run(b"339: ", &s[0..339]);
 }
 
 fn negative_count() {
-    let mut s = [0u8; 340];
-    s[260] = 255;
-    s[261] = 255;
-    s[262] = 255;
-    s[263] = 255;
+    let s = empty::negative_count();
     run(b"bone count -1: ", &s);
 }
 
 fn turned(what: &[u8], x: [u8; 2], y: [u8; 2], w: [u8; 2]) {
-    let s = made::turned(x, y, w);
+    let s = bones::turned(x, y, w);
     run(what, &s[0..430]);
 }
 
@@ -56,8 +53,8 @@ fn orientations() {
 }
 
 fn linked(what: &[u8], bone_next: u8, index: u8, previous: u8, next: u8) {
-    let s = made::linked(bone_next, index, previous, next);
-    run(what, &s);
+    let s = bones::linked(bone_next, index, previous, next);
+    run(what, &s[0..492]);
 }
 
 fn links() {
@@ -70,13 +67,13 @@ fn links() {
 }
 
 fn short_first() {
-    let s = made::linked(1, 1, 0, 0);
+    let s = bones::linked(1, 1, 0, 0);
     let mut first = [7u16; 2];
     let mut second = [7u16; 2];
     let mut output = [238u8; 28];
     run_lent(
         b"first slice of 0 places: ",
-        &s,
+        &s[0..492],
         &mut first[0..0],
         &mut second,
         &mut output,
@@ -84,13 +81,13 @@ fn short_first() {
 }
 
 fn short_second() {
-    let s = made::linked(1, 1, 0, 0);
+    let s = bones::linked(1, 1, 0, 0);
     let mut first = [7u16; 2];
     let mut second = [7u16; 2];
     let mut output = [238u8; 28];
     run_lent(
         b"second slice of 0 places: ",
-        &s,
+        &s[0..492],
         &mut first,
         &mut second[0..0],
         &mut output,
@@ -98,13 +95,13 @@ fn short_second() {
 }
 
 fn short_output() {
-    let s = made::linked(1, 1, 0, 0);
+    let s = bones::linked(1, 1, 0, 0);
     let mut first = [7u16; 2];
     let mut second = [7u16; 2];
     let mut output = [238u8; 15];
     run_lent(
         b"output of 15 bytes: ",
-        &s,
+        &s[0..492],
         &mut first,
         &mut second,
         &mut output,

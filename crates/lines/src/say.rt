@@ -1,4 +1,4 @@
-// The lines that the program prints.
+// The lines of a listing.
 use chains::block::Kind;
 use libc::STDOUT_FILENO;
 

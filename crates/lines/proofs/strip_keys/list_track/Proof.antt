@@ -1,8 +1,8 @@
 -- `list_track` is safe and ends. Assumes nothing.
 use Prim.Native.Nat.{_-_}
 use borrow.Author.Needs.{needs}
-use Rattle.listing.proofs.lines.list_track.Statement.{statement}
-use Rattle.listing.proofs.lines.list_track.Tie as tie
+use Rattle.lines.proofs.strip_keys.list_track.Statement.{statement}
+use Rattle.lines.proofs.strip_keys.list_track.Tie as tie
 
 abbrev Inv-loop : tie.InvT-loop
 Inv-loop strip kind track count at₀ keys₀ key₀ at keys key = Unit {0}

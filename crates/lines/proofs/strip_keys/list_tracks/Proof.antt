@@ -1,8 +1,8 @@
 -- `list_tracks` is safe and ends. Assumes nothing.
 use Prim.Native.Nat.{_-_}
 use borrow.Author.Needs.{needs}
-use Rattle.listing.proofs.lines.list_tracks.Statement.{statement}
-use Rattle.listing.proofs.lines.list_tracks.Tie as tie
+use Rattle.lines.proofs.strip_keys.list_tracks.Statement.{statement}
+use Rattle.lines.proofs.strip_keys.list_tracks.Tie as tie
 
 abbrev Inv-loop : tie.InvT-loop
 Inv-loop strip kind tracks walk₀ track₀ walk track = Unit {0}

@@ -7,4 +7,5 @@ mod models;
 mod records;
 mod refusals;
 mod sections;
+mod stack;
 mod tracks;

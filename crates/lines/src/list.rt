@@ -1,5 +1,4 @@
 // One model section: its counts, every key of its strip and how many records are loose, or the number of the refusal.
-use crate::refusal;
 use crate::say;
 use crate::strip_keys;
 use crate::strip_keys::Listed;
@@ -9,6 +8,7 @@ use section::summary::ModelSummary;
 use section::summary::PmmDocumentModelSummary;
 use strip_call::answer::Strip;
 use strip_call::call;
+use strip_call::number;
 ghost use mathlib.Core.Path.{_≡_};
 ghost use lib.ListN.{length};
 
@@ -34,7 +34,7 @@ fn list_model(section: &[u8], start: usize, m: PmmDocumentModelSummary) {
     let mut output = io::large_buffer();
     match call::strip(section, start, &mut first, &mut second, &mut output) {
         Strip::Built(_, _, loose) => list_strip(&output, m, loose),
-        Strip::Refused(why) => say::say_refused(refusal::refusal_number(why)),
+        Strip::Refused(why) => say::say_refused(number::number(why)),
     }
 }
 
@@ -42,6 +42,6 @@ fn list_model(section: &[u8], start: usize, m: PmmDocumentModelSummary) {
 pub fn list(section: &[u8], start: usize) {
     match summary::read_document_model_summary(section, start) {
         ModelSummary::Read(m) => list_model(section, start, m),
-        ModelSummary::Refused(why) => say::say_refused(refusal::reading_number(why)),
+        ModelSummary::Refused(why) => say::say_refused(number::reading_number(why)),
     }
 }

@@ -6,3 +6,4 @@ mod build;
 mod bytes;
 pub mod call;
 mod clip_build;
+pub mod number;

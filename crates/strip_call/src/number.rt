@@ -1,9 +1,17 @@
-// Document 01's number for each refusal of the strip call.
+// Document 01's number of a refusal.
+ghost use mathlib.Core.Path.{_≡_};
+ghost use Prim.Native.Nat.{ℕ};
+ghost use Rattle.binary.specs.Answers.{because};
+ghost use Rattle.clip.specs.Fields.{Kind};
+ghost use Rattle.chains.specs.Fault.{faultOf};
+ghost use Rattle.strip_call.specs.Answers.{refusalRead};
+use crate::answer::StripRefusal;
 use binary::counts::Refusal;
 use chains::fault::Fault;
-use strip_call::answer::StripRefusal;
 
-pub fn reading_number(why: Refusal) -> u8 {
+pub fn reading_number(why: Refusal) -> u8
+    ensures { λ r. ⌜ r ≡ because why .number ⌝ }
+{
     match why {
         Refusal::TooShort(_) => 1,
         Refusal::NegativeCount(_) => 2,
@@ -13,7 +21,9 @@ pub fn reading_number(why: Refusal) -> u8 {
     }
 }
 
-fn fault_number(fault: Fault) -> u8 {
+fn fault_number(fault: Fault) -> u8
+    ensures { λ r. ⌜ ((kind : Kind) (count : ℕ) → r ≡ faultOf kind count fault .number) ⌝ }
+{
     match fault {
         Fault::NegativeIndex(_) => 3,
         Fault::IndexBelowCount(_) => 4,
@@ -29,7 +39,9 @@ fn fault_number(fault: Fault) -> u8 {
     }
 }
 
-pub fn refusal_number(why: StripRefusal) -> u8 {
+pub fn number(why: StripRefusal) -> u8
+    ensures { λ r. ⌜ r ≡ refusalRead why .number ⌝ }
+{
     match why {
         StripRefusal::Reading(reading) => reading_number(reading),
         StripRefusal::Bones(_, fault) => fault_number(fault),

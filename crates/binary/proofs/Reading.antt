@@ -10,8 +10,7 @@ use lib.Ieee.{Float}
 use mir.Syntax.{w32}
 use mir.Val.{toZ, ofZ}
 use mir.ValLaws.{toZ-ofZ}
-use lib.ListN.{take, drop}
-use Rattle.layout.specs.Walk.{Walk, fine, refused, refusedAt, after, block, bytes}
+use Rattle.layout.specs.Walk.{Walk, fine, refused, refusedAt, after, block, Part, part, body}
 use Rattle.layout.proofs.Steps.{goes, stops, value-is, read-as, lacked-as, if-le, if-not-le, if-lt, if-not-lt}
 use Rattle.binary.specs.Answers.{u8Read, u32Read, i32Read, f32Read, boolRead, u32x3Read, u32x4Read, skipped, stringRead, because, countRead}
 use Rattle.binary.specs.declared.counts.Refusal.{Refusal}
@@ -70,12 +69,12 @@ module _ (B : Type 0) (w : Walk (Unit {0})) (f : Unit {0} → ℕ → Walk B) (r
   pub skip-stops : (place : ℕ) → skipped r ≡ w → r ≡ Skipped.Short place → refusedAt 1 place ≡ after w f
   skip-stops place = stops (Unit {0}) B Skipped skipped w f r (Skipped.Short place) _ refl
 
-module _ (B : Type 0) (s : List ℕ) (w : Walk (List ℕ)) (f : List ℕ → ℕ → Walk B) (r : ReadString) where
-  pub string-goes : (start size next : ℕ) (v : Walk B) → stringRead s r ≡ w → r ≡ ReadString.Bytes start size next → v ≡ f (take size (drop start s)) next → v ≡ after w f
-  string-goes start size next v = goes (List ℕ) B ReadString (stringRead s) w f r (ReadString.Bytes start size next) _ next v refl
+module _ (B : Type 0) (w : Walk Part) (f : Part → ℕ → Walk B) (r : ReadString) where
+  pub string-goes : (start size next : ℕ) (v : Walk B) → stringRead r ≡ w → r ≡ ReadString.Bytes start size next → v ≡ f (part start size) next → v ≡ after w f
+  string-goes start size next v = goes Part B ReadString stringRead w f r (ReadString.Bytes start size next) _ next v refl
 
-  pub string-stops : (place : ℕ) → stringRead s r ≡ w → r ≡ ReadString.Short place → refusedAt 1 place ≡ after w f
-  string-stops place = stops (List ℕ) B ReadString (stringRead s) w f r (ReadString.Short place) _ refl
+  pub string-stops : (place : ℕ) → stringRead r ≡ w → r ≡ ReadString.Short place → refusedAt 1 place ≡ after w f
+  string-stops place = stops Part B ReadString stringRead w f r (ReadString.Short place) _ refl
 
 module _ (B : Type 0) (w : Walk ℕ) (f : ℕ → ℕ → Walk B) (r : ReadCount) where
   pub count-goes : (n next : ℕ) (v : Walk B) → countRead r ≡ w → r ≡ ReadCount.Value n next → v ≡ f n next → v ≡ after w f
@@ -114,20 +113,12 @@ module _ (w : Walk Bool) (r : ReadBool) (contract : boolRead r ≡ w) where
   pub bool-lacks : (place : ℕ) → r ≡ ReadBool.Short place → refusedAt 1 place ≡ w
   bool-lacks place seen = ap boolRead (sym seen) ∙ contract
 
--- A string that ends it.
-module _ (s : List ℕ) (w : Walk (List ℕ)) (r : ReadString) (contract : stringRead s r ≡ w) where
-  pub string-ends : (start size next : ℕ) → r ≡ ReadString.Bytes start size next → fine (take size (drop start s)) next ≡ w
-  string-ends start size next seen = ap (stringRead s) (sym seen) ∙ contract
-
-  pub string-lacks : (place : ℕ) → r ≡ ReadString.Short place → refusedAt 1 place ≡ w
-  string-lacks place seen = ap (stringRead s) (sym seen) ∙ contract
-
 -- A string's body, seen by `skip`.
 module _ (width : ℕ) (s : List ℕ) (at : ℕ) (r : Skipped) (contract : skipped r ≡ block width s at) where
-  pub body-read : (next : ℕ) → r ≡ Skipped.To next → fine (take width (drop at s)) next ≡ bytes width s at
+  pub body-read : (next : ℕ) → r ≡ Skipped.To next → fine (part at width) next ≡ body width s at
   body-read next seen = sym (read-as width _ s at next (sym contract ∙ ap skipped seen))
 
-  pub body-lacked : (place : ℕ) → r ≡ Skipped.Short place → refusedAt 1 place ≡ bytes width s at
+  pub body-lacked : (place : ℕ) → r ≡ Skipped.Short place → refusedAt 1 place ≡ body width s at
   body-lacked place seen = sym (lacked-as width _ s at _ (sym contract ∙ ap skipped seen))
 
 -- A signed number that was made and is handed on.
@@ -159,8 +150,6 @@ pub ruleset reading = (
   skip-lacks,
   bool-ends,
   bool-lacks,
-  string-ends,
-  string-lacks,
   body-read,
   body-lacked,
   value-is,

@@ -1,13 +1,12 @@
 -- What each answer of the byte reader says in document 01's terms: a value and the offset behind it, or a refusal by its number
 -- and values.
 use Prim.Native.Nat.{ℕ}
-use mathlib.Core.List.{List, [], _∷_}
+use mathlib.Core.List.{[], _∷_}
 use mathlib.Core.Bool.{Bool}
-use lib.ListN.{take, drop}
 use lib.IntN.{ℤ, pos}
 use lib.Ieee.{Float}
 use Rattle.layout.specs.Walk
-use Rattle.layout.specs.Walk.{Walk, fine, refused, refusal, refusedAt}
+use Rattle.layout.specs.Walk.{Walk, fine, refused, refusal, refusedAt, Part, part}
 use Rattle.binary.specs.declared.counts.Refusal.{Refusal}
 use Rattle.binary.specs.declared.counts.ReadCount.{ReadCount}
 use Rattle.binary.specs.declared.groups.Bits3.{Bits3}
@@ -54,9 +53,9 @@ abbrev pub skipped : Skipped → Walk (Unit {0})
 skipped (Skipped.To next) = fine tt next
 skipped (Skipped.Short place) = refusedAt 1 place
 
-abbrev pub stringRead : List ℕ → ReadString → Walk (List ℕ)
-stringRead s (ReadString.Bytes start length next) = fine (take length (drop start s)) next
-stringRead s (ReadString.Short place) = refusedAt 1 place
+abbrev pub stringRead : ReadString → Walk Part
+stringRead (ReadString.Bytes start length next) = fine (part start length) next
+stringRead (ReadString.Short place) = refusedAt 1 place
 
 abbrev pub because : Refusal → Walk.Refusal
 because (Refusal.TooShort at) = refusal 1 (pos at ∷ [])

@@ -1,4 +1,3 @@
 pub mod Groups
 pub mod Answers
 pub mod Items
-pub mod Zero

@@ -1,10 +1,11 @@
 // Little-endian numbers, bools and floats at a position.
 ghost use mathlib.Core.Path.{_≡_};
-ghost use Prim.Native.Nat.{_+_, _*_};
+ghost use Prim.Native.Nat.{_+_, _*_, _≤_};
+ghost use lib.ListN.{length};
 ghost use lib.Ieee.{ofBits, binary32};
 ghost use mir.Syntax.{w32};
 ghost use mir.Val.{toZ};
-ghost use Rattle.layout.specs.Walk.{u8, u32, i32, f32, bool, block};
+ghost use Rattle.layout.specs.Walk.{u8, u32At, u32, i32, f32, bool, block};
 ghost use Rattle.binary.specs.Answers.{
   u8Read,
   u32Read,
@@ -84,6 +85,18 @@ fn joined(a: u8, b: u8, c: u8, d: u8) -> u32
     (a as u32) + 256 * (b as u32) + 65536 * (c as u32) + 16777216 * (d as u32)
 }
 
+// Four bytes that stand whole in the section.
+pub fn u32_at(s: &[u8], at: usize) -> u32
+    requires { ⌜ at + 4 ≤ length (now s) ⌝ }
+    ensures { λ r. ⌜ r ≡ u32At (now (s .entry)) at ⌝ }
+{
+    let a = s[at];
+    let b = s[at + 1];
+    let c = s[at + 2];
+    let d = s[at + 3];
+    joined(a, b, c, d)
+}
+
 // The 32 bits of an i32 or an f32.
 pub fn read_u32_le(s: &[u8], at: usize) -> ReadU32
     ensures { λ r. ⌜ u32Read r ≡ u32 (now (s .entry)) at ⌝ }
@@ -94,11 +107,7 @@ pub fn read_u32_le(s: &[u8], at: usize) -> ReadU32
     if s.len() - at < 4 {
         return ReadU32::Short(at);
     }
-    let a = s[at];
-    let b = s[at + 1];
-    let c = s[at + 2];
-    let d = s[at + 3];
-    ReadU32::Value(joined(a, b, c, d), at + 4)
+    ReadU32::Value(u32_at(s, at), at + 4)
 }
 
 // The i32 of 32 bits, in two's complement.

@@ -2,8 +2,7 @@
 ghost use mathlib.Core.Path.{_≡_};
 ghost use Prim.Native.Nat.{_+_, _≤_};
 ghost use lib.ListN.{length, take, drop};
-ghost use Rattle.layout.specs.Walk.{string, fixedString, times};
-ghost use Rattle.binary.specs.Zero.{EndsAt};
+ghost use Rattle.layout.specs.Walk.{string, fixedString, beforeZero, times};
 ghost use Rattle.binary.specs.Answers.{stringRead, skipped};
 use crate::numbers;
 use crate::numbers::ReadU8;
@@ -20,14 +19,14 @@ pub enum ReadString {
 }
 
 pub fn read_variable_string(s: &[u8], at: usize) -> ReadString
-    ensures { λ r. ⌜ stringRead (now (s .entry)) r ≡ string (now (s .entry)) at ⌝ }
+    ensures { λ r. ⌜ stringRead r ≡ string (now (s .entry)) at ⌝ }
 {
     match numbers::read_u8(s, at) {
-        ReadU8::Value(b, start) => {
+        ReadU8::Value(b, body) => {
             let length = b as usize;
-            match numbers::skip(s, start, length) {
+            match numbers::skip(s, body, length) {
                 Skipped::To(next) => ReadString::Bytes {
-                    start,
+                    start: body,
                     length,
                     next,
                 },
@@ -41,7 +40,7 @@ pub fn read_variable_string(s: &[u8], at: usize) -> ReadString
 // How many of the `width` bytes at a position stand before the first zero byte.
 fn before_zero(s: &[u8], at: usize, width: usize) -> usize
     requires { ⌜ at + width ≤ length (now s) ⌝ }
-    ensures { λ r. ⌜ EndsAt (take width (drop at (now (s .entry)))) r ⌝ }
+    ensures { λ r. ⌜ r ≡ beforeZero (take width (drop at (now (s .entry)))) ⌝ }
 {
     let mut i = 0;
     while i < width {
@@ -55,7 +54,7 @@ fn before_zero(s: &[u8], at: usize, width: usize) -> usize
 
 // A field of `width` bytes ends before its first zero byte, if it has one.
 pub fn read_fixed_string(s: &[u8], at: usize, width: usize) -> ReadString
-    ensures { λ r. ⌜ stringRead (now (s .entry)) r ≡ fixedString width (now (s .entry)) at ⌝ }
+    ensures { λ r. ⌜ stringRead r ≡ fixedString width (now (s .entry)) at ⌝ }
 {
     if s.len() < at {
         return ReadString::Short(at);

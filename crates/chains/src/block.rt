@@ -5,7 +5,6 @@ ghost use lib.ListN.{length};
 ghost use Rattle.layout.specs.Walk.{u32At};
 ghost use Rattle.chains.specs.Block.{Fits, links};
 use binary::numbers;
-use binary::numbers::ReadU32;
 use order::field::Field;
 
 pub enum Kind {
@@ -18,16 +17,6 @@ pub struct Block {
     pub kind: Kind,
     pub initials: Field,
     pub records: Field,
-}
-
-fn u32_at(s: &[u8], at: usize) -> u32
-    requires { ⌜ at + 4 ≤ length (now s) ⌝ }
-    ensures { λ r. ⌜ r ≡ u32At (now (s .entry)) at ⌝ }
-{
-    match numbers::read_u32_le(s, at) {
-        ReadU32::Value(number, _) => number,
-        ReadU32::Short(_) => 0,
-    }
 }
 
 // Where a record begins.
@@ -45,7 +34,7 @@ fn record_number(s: &[u8], b: Block, p: usize, bytes: usize) -> u32
     requires { ⌜ bytes ≤ 12 ⌝ }
     ensures { λ r. ⌜ r ≡ u32At (now (s .entry)) (b .records .first + p * b .records .width + bytes) ⌝ }
 {
-    u32_at(s, place(b.records, p) + bytes)
+    numbers::u32_at(s, place(b.records, p) + bytes)
 }
 
 // A number of a track's initial record, so many bytes behind its frame.
@@ -55,7 +44,7 @@ fn initial_number(s: &[u8], b: Block, track: usize, bytes: usize) -> u32
     requires { ⌜ bytes ≤ 8 ⌝ }
     ensures { λ r. ⌜ r ≡ u32At (now (s .entry)) (b .initials .first + track * b .initials .width + bytes) ⌝ }
 {
-    u32_at(s, place(b.initials, track) + bytes)
+    numbers::u32_at(s, place(b.initials, track) + bytes)
 }
 
 // The numbers of the additional record at a position.

@@ -1,3 +1,9 @@
+// What a build meets.
+// "`BoneIndex` and `MorphIndex` number two kinds of track that are kept separate."
+pub struct BoneIndex(pub u32);
+
+pub struct MorphIndex(pub u32);
+
 // What a build meets first, if anything. Indices, links and frames are their 32 bits; specs/Fault.antt gives document 01's number and values.
 pub enum Fault {
     NegativeIndex(u32),
@@ -8,7 +14,8 @@ pub enum Fault {
     Wrong(usize, u32, u32, u32),
     NegativeFrame(usize, u32),
     RepeatedFrame(usize, u32),
-    Body(u8, usize, u32),
+    Pose(u8, BoneIndex, u32),
+    Weight(u8, MorphIndex, u32),
     Disconnected(usize),
 }
 

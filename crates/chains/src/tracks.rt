@@ -17,6 +17,7 @@ use crate::ready::Ready;
 fn record_key(s: &[u8], b: Block, track: usize, p: usize, repeated: bool) -> Met
     requires { ⌜ Fits (now s) b ⌝ }
     requires { ⌜ p < b .records .count ⌝ }
+    requires { ⌜ track < b .initials .count ⌝ }
     ensures { λ r. ⌜ metRead (kindOf (b .kind)) (b .initials .count) r ≡ keyMeets (now (s .entry)) (b .kind) track (links (now (s .entry)) b .at p .frame) (links (now (s .entry)) b .at p .body) repeated ⌝ }
 {
     let frame = block::frame_at(s, b, p);

@@ -72,7 +72,7 @@ uint32_t limdroven_constraint_state(const uint8_t *section, size_t section_len, 
 /* An outside parent's state: parent_model_index, parent_model_bone_index, subject_bone_index, target_model_index. */
 uint32_t limdroven_outside_parent_state(const uint8_t *section, size_t section_len, size_t start, size_t number, uint64_t *values, size_t values_len);
 
-/* Where a text stands in the lent bytes: offset, length. */
+/* Where a text's own bytes stand in the lent bytes, a name's behind its length byte: offset, length. */
 uint32_t limdroven_name_span(const uint8_t *section, size_t section_len, size_t start, uint64_t *values, size_t values_len);
 uint32_t limdroven_english_name_span(const uint8_t *section, size_t section_len, size_t start, uint64_t *values, size_t values_len);
 uint32_t limdroven_path_span(const uint8_t *section, size_t section_len, size_t start, uint64_t *values, size_t values_len);

@@ -1,2 +1,1 @@
 pub mod Curved
-pub mod Spanned

@@ -10,21 +10,21 @@ use numbers::put;
 
 #[no_mangle]
 pub extern "C" fn limdroven_name(section: &[u8], start: usize, output: &mut [u8]) -> usize
-    ensures { λ r. ⌜ Hands (partOr (textOf edition1 Text.Name (now (section .entry)) start)) (now (output .entry)) r (now (output .exit)) ⌝ }
+    ensures { λ r. ⌜ Hands (partOr (textOf edition1 Text.Name (now (section .entry)) start) (now (section .entry))) (now (output .entry)) r (now (output .exit)) ⌝ }
 {
     put::put_part(output, texts::text_part(section, start, Text::Name))
 }
 
 #[no_mangle]
 pub extern "C" fn limdroven_english_name(section: &[u8], start: usize, output: &mut [u8]) -> usize
-    ensures { λ r. ⌜ Hands (partOr (textOf edition1 Text.EnglishName (now (section .entry)) start)) (now (output .entry)) r (now (output .exit)) ⌝ }
+    ensures { λ r. ⌜ Hands (partOr (textOf edition1 Text.EnglishName (now (section .entry)) start) (now (section .entry))) (now (output .entry)) r (now (output .exit)) ⌝ }
 {
     put::put_part(output, texts::text_part(section, start, Text::EnglishName))
 }
 
 #[no_mangle]
 pub extern "C" fn limdroven_path(section: &[u8], start: usize, output: &mut [u8]) -> usize
-    ensures { λ r. ⌜ Hands (partOr (textOf edition1 Text.Path (now (section .entry)) start)) (now (output .entry)) r (now (output .exit)) ⌝ }
+    ensures { λ r. ⌜ Hands (partOr (textOf edition1 Text.Path (now (section .entry)) start) (now (section .entry))) (now (output .entry)) r (now (output .exit)) ⌝ }
 {
     put::put_part(output, texts::text_part(section, start, Text::Path))
 }
@@ -36,7 +36,7 @@ pub extern "C" fn limdroven_bone_name(
     number: usize,
     output: &mut [u8],
 ) -> usize
-    ensures { λ r. ⌜ Hands (partOr (textOf edition1 (Text.Bone number) (now (section .entry)) start)) (now (output .entry)) r (now (output .exit)) ⌝ }
+    ensures { λ r. ⌜ Hands (partOr (textOf edition1 (Text.Bone number) (now (section .entry)) start) (now (section .entry))) (now (output .entry)) r (now (output .exit)) ⌝ }
 {
     put::put_part(output, texts::text_part(section, start, Text::Bone(number)))
 }
@@ -48,7 +48,7 @@ pub extern "C" fn limdroven_morph_name(
     number: usize,
     output: &mut [u8],
 ) -> usize
-    ensures { λ r. ⌜ Hands (partOr (textOf edition1 (Text.Morph number) (now (section .entry)) start)) (now (output .entry)) r (now (output .exit)) ⌝ }
+    ensures { λ r. ⌜ Hands (partOr (textOf edition1 (Text.Morph number) (now (section .entry)) start) (now (section .entry))) (now (output .entry)) r (now (output .exit)) ⌝ }
 {
     put::put_part(
         output,

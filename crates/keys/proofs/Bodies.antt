@@ -7,10 +7,7 @@ use mathlib.Core.List.{List, [], _∷_, _++_}
 use mathlib.Core.Path.{_≡_, refl, sym, ap, _∙_, subst}
 use lib.ListN.{length, getD, length-append, List·getD-append}
 use lib.Seq.{getD-at}
-use Rattle.layout.specs.Walk.{u32At, u32}
-use Rattle.layout.proofs.Steps.{whole}
-use Rattle.binary.specs.Answers.{u32Read}
-use Rattle.binary.specs.declared.numbers.ReadU32.{ReadU32}
+use Rattle.layout.specs.Walk.{u32At}
 use Rattle.records.specs.Pose.{float, poseOf}
 use Rattle.clip.specs.Keys.{posed, floatAt}
 use Rattle.clip.specs.Section.{bytesAt, boneBody, morphBody}
@@ -47,14 +44,6 @@ word-in s at n i fits =
 
 pub first-word-in : (s : List ℕ) (at n : ℕ) → 4 ≤ n → u32At (bytesAt s at n) 0 ≡ u32At s at
 first-word-in s at n fits = word-in s at n 0 (omega arith) ∙ ap (u32At s) (add-zero at)
-
--- What is read of four bytes that are there.
-module _ (s : List ℕ) (at : ℕ) (r : ReadU32) where
-  pub value-read : (bits next : ℕ) → at + 4 ≤ length s → u32Read r ≡ u32 s at → r ≡ ReadU32.Value bits next → bits ≡ u32At s at
-  value-read bits next fits contract seen = let w = whole 4 u32At s at fits in cc
-
-  pub never-short : (bits place : ℕ) → at + 4 ≤ length s → u32Read r ≡ u32 s at → r ≡ ReadU32.Short place → bits ≡ u32At s at
-  never-short bits place fits contract seen = let w = whole 4 u32At s at fits in let z : _≡_ {A = ℕ} 0 1 = cc in absurd (omega arith)
 
 pub weight-is : (s : List ℕ) (at : ℕ) → float (u32At s at) ≡ floatAt (morphBody s at) 0
 unfolding morphBody

@@ -6,7 +6,7 @@ use mathlib.Core.Bool.{Bool, true, false, cond}
 use mathlib.Core.List.{List, [], _++_, append-assoc, append-nil}
 use mathlib.Core.Path.{_≡_, sym, ap, _∙_}
 use lib.ListN.{length, take, drop, length-append, length-drop, take-append-drop}
-use lib.Seq.{length-take-le, take-at, drop-append-add, drop-drop, sets, sets-eq}
+use lib.Seq.{length-take-le, take-at, drop-at, take-append-le, take-take, drop-append-add, drop-drop, sets, sets-eq}
 use Rattle.strip.specs.Call.{over}
 use Rattle.strip.specs.Keys.{littleEndian}
 use Rattle.strip.proofs.Bytes.{length-littleEndian}
@@ -46,6 +46,26 @@ placed-then place xs ys old fits =
     in
     rw (first, last, append-assoc (take place old) xs ys)
 
+-- Placing ys and then xs before them is placing xs ++ ys.
+pub placed-before : (place : ℕ) (xs ys old : List ℕ) → place + length xs ≤ length old → placed place xs (placed (place + length xs) ys old) ≡ placed place (xs ++ ys) old
+unfolding placed
+placed-before place xs ys old fits =
+    let at = place + length xs in
+    let front = take at old in
+    let rest = drop (at + length ys) old in
+    let joined : front ++ ys ++ rest ≡ front ++ (ys ++ rest) = append-assoc front ys rest in
+    let first : take place (front ++ (ys ++ rest)) ≡ take place old =
+    take-append-le place front (ys ++ rest) (let long = length-take-le at old fits in omega (arith, long)) ∙ take-take place at old (omega arith)
+    in
+    let last : drop at (front ++ (ys ++ rest)) ≡ ys ++ rest = drop-at front (ys ++ rest) at (length-take-le at old fits) in
+    let behind : rest ≡ drop (place + length (xs ++ ys)) old =
+    ap (λ (n : ℕ). drop n old) (add-assoc place (length xs) (length ys) ∙ ap (λ (n : ℕ). place + n) (sym (length-append xs ys)))
+    in
+    rw (joined, first, last)
+    (sym (append-assoc (take place old ++ xs) ys rest)
+    ∙ ap (λ (zs : List ℕ). zs ++ rest) (append-assoc (take place old) xs ys)
+    ∙ ap (λ (zs : List ℕ). take place old ++ (xs ++ ys) ++ zs) behind)
+
 -- Stores one behind the other.
 pub stored : (vs old : List ℕ) (place : ℕ) → place + length vs ≤ length old → sets old place vs ≡ placed place vs old
 unfolding placed
@@ -73,6 +93,19 @@ module _ (place : ℕ) (xs ys old : List ℕ) (room : Room place (xs ++ ys) old)
           ends = omega (arith, sum, e1, e2);
           leaves = back .leaves ∙ rw (front .ends, front .leaves) (placed-then place xs ys old (omega arith));
         }
+
+  -- What is written before what was written.
+  pub room-behind : Room (place + length xs) ys old
+  room-behind = let sum = length-append xs ys in omega (arith, sum)
+
+  pub wrote-before : (end : ℕ) (mid new : List ℕ) → Wrote (place + length xs) ys old end mid → new ≡ placed place xs mid → Wrote place (xs ++ ys) old end new
+  wrote-before end mid new back e =
+      let sum = length-append xs ys in
+      let ends = back .ends in
+      record {
+        ends = omega (arith, sum, ends);
+        leaves = e ∙ rw (back .leaves) (placed-before place xs ys old (omega arith));
+      }
 
 -- Three parts.
 module _ (place : ℕ) (xs ys zs old : List ℕ) (room : Room place (xs ++ ys ++ zs) old) where

@@ -2,20 +2,35 @@
 ghost use mathlib.Core.Path.{_≡_};
 ghost use mathlib.Core.Bool.{cond};
 ghost use mathlib.Core.List.{[]};
-ghost use Prim.Native.Nat.{_+_, _≤_};
+ghost use Prim.Native.Nat.{_+_, _*_, _≤_};
 ghost use lib.ListN.{length};
 ghost use Rattle.clip.specs.Section.{bytesAt};
 ghost use Rattle.keys.specs.Placed.{placed, Room, Wrote, poseBytes, threeCurves, curveBytes};
 use crate::plain::BonePlain;
 
-// `n` bytes of the section.
-fn copy(s: &[u8], from: usize, n: usize, output: &mut [u8], place: usize)
-    requires { ⌜ (from + n ≤ length (now s)) × (place + n ≤ length (now output)) ⌝ }
-    ensures { λ _. ⌜ now (output .exit) ≡ placed place (bytesAt (now (s .entry)) from n) (now (output .entry)) ⌝ }
+// Four bytes of the section.
+fn copy_word(s: &[u8], from: usize, output: &mut [u8], place: usize)
+    requires { ⌜ (from + 4 ≤ length (now s)) × (place + 4 ≤ length (now output)) ⌝ }
+    ensures { λ _. ⌜ now (output .exit) ≡ placed place (bytesAt (now (s .entry)) from 4) (now (output .entry)) ⌝ }
+{
+    let a = s[from];
+    let b = s[from + 1];
+    let c = s[from + 2];
+    let d = s[from + 3];
+    output[place] = a;
+    output[place + 1] = b;
+    output[place + 2] = c;
+    output[place + 3] = d;
+}
+
+// Floats of the section.
+fn copy(s: &[u8], from: usize, floats: usize, output: &mut [u8], place: usize)
+    requires { ⌜ (from + 4 * floats ≤ length (now s)) × (place + 4 * floats ≤ length (now output)) ⌝ }
+    ensures { λ _. ⌜ now (output .exit) ≡ placed place (bytesAt (now (s .entry)) from (4 * floats)) (now (output .entry)) ⌝ }
 {
     let mut i: usize = 0;
-    while i < n {
-        output[place + i] = s[from + i];
+    while i < floats {
+        copy_word(s, from + 4 * i, output, place + 4 * i);
         i += 1;
     }
 }
@@ -25,26 +40,26 @@ pub fn copy_unless(
     plain: bool,
     s: &[u8],
     from: usize,
-    n: usize,
+    floats: usize,
     output: &mut [u8],
     place: usize,
 ) -> usize
-    requires { ⌜ (from + n ≤ length (now s)) × Room place (cond plain [] (bytesAt (now s) from n)) (now output) ⌝ }
-    ensures { λ r. ⌜ Wrote place (cond plain [] (bytesAt (now (s .entry)) from n)) (now (output .entry)) r (now (output .exit)) ⌝ }
+    requires { ⌜ (from + 4 * floats ≤ length (now s)) × Room place (cond plain [] (bytesAt (now s) from (4 * floats))) (now output) ⌝ }
+    ensures { λ r. ⌜ Wrote place (cond plain [] (bytesAt (now (s .entry)) from (4 * floats))) (now (output .entry)) r (now (output .exit)) ⌝ }
 {
     if plain {
         return place;
     }
-    copy(s, from, n, output, place);
-    place + n
+    copy(s, from, floats, output, place);
+    place + 4 * floats
 }
 
 pub fn write_pose(plain: BonePlain, s: &[u8], at: usize, output: &mut [u8], place: usize) -> usize
     requires { ⌜ (at + 44 ≤ length (now s)) × Room place (poseBytes plain (now s) at) (now output) ⌝ }
     ensures { λ r. ⌜ Wrote place (poseBytes plain (now (s .entry)) at) (now (output .entry)) r (now (output .exit)) ⌝ }
 {
-    let next = copy_unless(plain.translation, s, at + 16, 12, output, place);
-    copy_unless(plain.orientation, s, at + 28, 16, output, next)
+    let next = copy_unless(plain.translation, s, at + 16, 3, output, place);
+    copy_unless(plain.orientation, s, at + 28, 4, output, next)
 }
 
 fn write_curve(curve: [u8; 4], output: &mut [u8], place: usize) -> usize

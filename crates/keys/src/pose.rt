@@ -50,7 +50,7 @@ pub fn weight_at(s: &[u8], at: usize) -> f32
     requires { ⌜ at + 4 ≤ length (now s) ⌝ }
     ensures { λ r. ⌜ r ≡ floatAt (morphBody (now (s .entry)) at) 0 ⌝ }
 {
-    numbers::float(words::word(s, at))
+    numbers::float(numbers::u32_at(s, at))
 }
 
 pub fn finite(x: f32) -> bool

@@ -2,30 +2,18 @@
 ghost use mathlib.Core.Path.{_≡_};
 ghost use Prim.Native.Nat.{_+_, _≤_};
 ghost use lib.ListN.{length};
-ghost use Rattle.layout.specs.Walk.{u32At};
 ghost use Rattle.keys.specs.Words.{words3, words4};
 use binary::groups::Bits3;
 use binary::groups::Bits4;
 use binary::numbers;
-use binary::numbers::ReadU32;
-
-pub fn word(s: &[u8], at: usize) -> u32
-    requires { ⌜ at + 4 ≤ length (now s) ⌝ }
-    ensures { λ r. ⌜ r ≡ u32At (now (s .entry)) at ⌝ }
-{
-    match numbers::read_u32_le(s, at) {
-        ReadU32::Value(bits, _) => bits,
-        ReadU32::Short(_) => 0,
-    }
-}
 
 pub fn three_words(s: &[u8], at: usize) -> Bits3
     requires { ⌜ at + 12 ≤ length (now s) ⌝ }
     ensures { λ r. ⌜ r ≡ words3 (now (s .entry)) at ⌝ }
 {
-    let x = word(s, at);
-    let y = word(s, at + 4);
-    let z = word(s, at + 8);
+    let x = numbers::u32_at(s, at);
+    let y = numbers::u32_at(s, at + 4);
+    let z = numbers::u32_at(s, at + 8);
     Bits3(x, y, z)
 }
 
@@ -33,9 +21,9 @@ pub fn four_words(s: &[u8], at: usize) -> Bits4
     requires { ⌜ at + 16 ≤ length (now s) ⌝ }
     ensures { λ r. ⌜ r ≡ words4 (now (s .entry)) at ⌝ }
 {
-    let x = word(s, at);
-    let y = word(s, at + 4);
-    let z = word(s, at + 8);
-    let w = word(s, at + 12);
+    let x = numbers::u32_at(s, at);
+    let y = numbers::u32_at(s, at + 4);
+    let z = numbers::u32_at(s, at + 8);
+    let w = numbers::u32_at(s, at + 12);
     Bits4(x, y, z, w)
 }

@@ -81,5 +81,5 @@ pub fn write_morph_key(s: &[u8], at: usize, frame: u32, output: &mut [u8], place
     let plain = plain::morph_plain(s, at);
     let map = plain::unless(plain, 1);
     let weight = write_head(output, place, frame, map);
-    fields::copy_unless(plain, s, at, 4, output, weight)
+    fields::copy_unless(plain, s, at, 1, output, weight)
 }

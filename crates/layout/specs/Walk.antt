@@ -99,22 +99,33 @@ f32 = do
 abbrev pub block : ℕ → Reader (Unit {0})
 block width = item width (λ s at. tt)
 
-abbrev pub bytes : ℕ → Reader (List ℕ)
-bytes width = item width (λ s at. take width (drop at s))
+-- A name or path is "the part of the section that holds it" (module 7): where its bytes stand, and how many they are.
+pub record Part : Type 0 where
+  pub offset : ℕ
+  pub length : ℕ
+
+abbrev pub part : ℕ → ℕ → Part
+part offset length = record { offset = offset; length = length }
+
+abbrev pub bytesOf : Part → List ℕ → List ℕ
+bytesOf p s = take (p .length) (drop (p .offset) s)
+
+abbrev pub body : ℕ → Reader Part
+body width = item width (λ s at. part at width)
 
 -- A name: length u8, then that many bytes.
-unfoldable pub string : Reader (List ℕ)
+unfoldable pub string : Reader Part
 string = do
   width ← u8
-  bytes width
+  body width
 
--- A fixed field: `width` bytes, "ending before its first zero byte if it has one".
-unfoldable pub beforeZero : List ℕ → List ℕ
-beforeZero [] = []
-beforeZero (b ∷ bs) = cond (eqb b 0) [] (b ∷ beforeZero bs)
+-- A fixed field: `width` bytes, "ending before its first zero byte if it has one"; so many stand before it.
+unfoldable pub beforeZero : List ℕ → ℕ
+beforeZero [] = 0
+beforeZero (b ∷ bs) = cond (eqb b 0) 0 (suc (beforeZero bs))
 
-abbrev pub fixedString : ℕ → Reader (List ℕ)
-fixedString width = item width (λ s at. beforeZero (take width (drop at s)))
+abbrev pub fixedString : ℕ → Reader Part
+fixedString width = item width (λ s at. part at (beforeZero (take width (drop at s))))
 
 -- The same reader n times.
 unfoldable pub times : {A : Type 0} → ℕ → Reader A → Reader (Unit {0})

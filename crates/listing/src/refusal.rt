@@ -23,7 +23,8 @@ fn fault_number(fault: Fault) -> u8 {
         Fault::Wrong(_, _, _, _) => 8,
         Fault::NegativeFrame(_, _) => 10,
         Fault::RepeatedFrame(_, _) => 11,
-        Fault::Body(number, _, _) => number,
+        Fault::Pose(number, _, _) => number,
+        Fault::Weight(number, _, _) => number,
         Fault::Disconnected(_) => 15,
     }
 }

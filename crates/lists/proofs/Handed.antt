@@ -3,29 +3,17 @@ use Prim.Native.Nat.{ℕ}
 use mathlib.Core.List.{List, []}
 use mathlib.Core.Path.{_≡_, refl, sym, ap, _∙_}
 use lib.ListN.{take, drop}
-use Rattle.layout.specs.Walk.{Refusal, Walk, Answer, answered, declined}
-use Rattle.binary.specs.Answers.{stringRead}
-use Rattle.binary.specs.declared.strings.ReadString.{ReadString}
+use Rattle.layout.specs.Walk.{Refusal, Answer, answered, declined, answer, Part}
 use Rattle.records.specs.declared.base.Span.{Span}
 use Rattle.section.specs.declared.model.Model.{Model}
-use Rattle.lists.specs.Answers.{textRead}
 use Rattle.lists.specs.Parts.{payloadOr}
 use Rattle.lists.specs.Interpolation.{curvesOr}
-use Rattle.lists.specs.Texts.{foundOf, textAt}
-use Rattle.lists.specs.declared.texts.ReadText.{ReadText}
+use Rattle.lists.specs.Texts.{textAt}
 use Rattle.lists.specs.declared.texts.Text.{Text}
 
-found-says : (s : List ℕ) (r : ReadString) → textRead s (foundOf r) ≡ stringRead s r
-found-says s (ReadString.Bytes start length next) = refl
-found-says s (ReadString.Short place) = refl
-
--- A text that was seen to be k, found by reading a string.
-pub text-found : (s : List ℕ) (m : Model) (text k : Text) (t : ReadText) (r : ReadString) → t ≡ foundOf r → text ≡ k → stringRead s r ≡ textAt k m s → textRead s t ≡ textAt text m s
-text-found s m text k t r found told read =
-    ap (textRead s) found ∙ found-says s r ∙ read ∙ ap (λ (x : Text). textAt x m s) (sym told)
-
-pub text-named : (s : List ℕ) (m : Model) (text k : Text) (t : ReadText) → text ≡ k → textRead s t ≡ textAt k m s → textRead s t ≡ textAt text m s
-text-named s m text k t told read = read ∙ ap (λ (x : Text). textAt x m s) (sym told)
+-- A text that was seen to be k.
+pub text-told : (s : List ℕ) (m : Model) (text k : Text) (v : Answer Part) → text ≡ k → v ≡ answer (textAt k m s) → v ≡ answer (textAt text m s)
+text-told s m text k v told read = read ∙ ap (λ (x : Text). answer (textAt x m s)) (sym told)
 
 -- What is made of a call's answer: x is what the definition gives, y what the call answered, k its case.
 pub handed : {A L : Type 0} (f : Answer A → L) (x y k : Answer A) (p : L) → y ≡ x → y ≡ k → p ≡ f k → p ≡ f x

@@ -1,10 +1,7 @@
 -- What each answer says in document 01's terms.
-use Prim.Native.Nat.{ℕ}
 use mathlib.Core.Bool.{Bool}
-use mathlib.Core.List.{List}
-use lib.ListN.{take, drop}
 use lib.Ieee.{Float}
-use Rattle.layout.specs.Walk.{Walk, fine, refused, Answer, answered, declined}
+use Rattle.layout.specs.Walk.{Walk, fine, refused, Answer, answered, declined, Part, part}
 use Rattle.binary.specs.Items.{widths}
 use Rattle.binary.specs.Answers.{because}
 use Rattle.section.specs.declared.model.Model.{Model}
@@ -12,7 +9,6 @@ use Rattle.lists.specs.Lists.{Listed, listed}
 use Rattle.lists.specs.declared.lists.Entries.{Entries}
 use Rattle.lists.specs.declared.lists.ReadEntry.{ReadEntry}
 use Rattle.lists.specs.declared.lists.Located.{Located}
-use Rattle.lists.specs.declared.texts.ReadText.{ReadText}
 use Rattle.lists.specs.declared.texts.TextSpan.{TextSpan}
 use Rattle.lists.specs.declared.model_lists.ReadFlag.{ReadFlag}
 use Rattle.lists.specs.declared.model_lists.PairBits.{PairBits}
@@ -88,10 +84,6 @@ abbrev pub modelPairRead : ModelPair → Answer PmmDocumentOutsideParentIndexSum
 modelPairRead (ModelPair.Read x) = answered x
 modelPairRead (ModelPair.Refused why) = declined (because why)
 
-abbrev pub textRead : List ℕ → ReadText → Walk (List ℕ)
-textRead s (ReadText.Bytes start length next) = fine (take length (drop start s)) next
-textRead s (ReadText.Refused why) = refused (because why)
-
-abbrev pub textSpanRead : List ℕ → TextSpan → Answer (List ℕ)
-textSpanRead s (TextSpan.At offset length) = answered (take length (drop offset s))
-textSpanRead s (TextSpan.Refused why) = declined (because why)
+abbrev pub textSpanRead : TextSpan → Answer Part
+textSpanRead (TextSpan.At offset length) = answered (part offset length)
+textSpanRead (TextSpan.Refused why) = declined (because why)

@@ -3,12 +3,12 @@
 use mathlib.Core.List.{List, []}
 use Prim.Native.Nat.{ℕ}
 use lib.ListN.{take, drop}
-use Rattle.layout.specs.Walk.{Answer, answered, declined}
+use Rattle.layout.specs.Walk.{Answer, answered, declined, Part, bytesOf}
 use Rattle.records.specs.declared.base.Span.{Span}
 
-abbrev pub partOr : Answer (List ℕ) → List ℕ
-partOr (answered part) = part
-partOr (declined why) = []
+abbrev pub partOr : Answer Part → List ℕ → List ℕ
+partOr (answered p) s = bytesOf p s
+partOr (declined why) s = []
 
 -- The payload of the record that a call answers of.
 abbrev pub payloadOr : {A : Type 0} → (A → Span) → Answer A → List ℕ → List ℕ

@@ -7,8 +7,8 @@ pub mod FirstOfAll
 pub mod Heaps
 pub mod Laws
 pub mod Neighbours
-pub mod Numbers
 pub mod Risen
+pub mod Settling
 pub mod Sinks
 pub mod Swaps
 pub mod Taking

@@ -5,4 +5,5 @@ pub mod field;
 mod heap;
 pub mod repeats;
 pub mod search;
+mod settle;
 pub mod sorting;

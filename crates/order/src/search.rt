@@ -1,11 +1,32 @@
-// Binary search for the record of a number.
+// The record of a number, among slots whose numbers do not fall.
 ghost use Rattle.order.specs.Field.{Within, AllBelow};
-ghost use Rattle.order.specs.Find.{NumbersRise, Finds};
+ghost use Rattle.order.specs.Find.{NumbersRise, Stands, Finds};
 use crate::answer::Find;
 use crate::field;
 use crate::field::Field;
 
-pub fn find(s: &[u8], f: Field, slots: &[u16], number: u32) -> Find
+// In files that MMD writes the numbers are consecutive: a number stands as far behind the first slot as it is above the first slot's number.
+fn find_consecutive(s: &[u8], f: Field, slots: &[u16], number: u32) -> Find
+    requires { ⌜ Within (now s) f ⌝ }
+    requires { ⌜ AllBelow (f .count) (now slots) ⌝ }
+    ensures { λ r. ⌜ Stands (now (s .entry)) f (now (slots .entry)) number r ⌝ }
+{
+    if 0 < slots.len() {
+        let least = field::number_at(s, f, slots[0] as usize);
+        if least <= number {
+            let i = (number - least) as usize;
+            if i < slots.len() {
+                if field::number_at(s, f, slots[i] as usize) == number {
+                    return Find::At(i);
+                }
+            }
+        }
+    }
+    Find::Absent
+}
+
+// Binary search.
+fn find_between(s: &[u8], f: Field, slots: &[u16], number: u32) -> Find
     requires { ⌜ Within (now s) f ⌝ }
     requires { ⌜ AllBelow (f .count) (now slots) ⌝ }
     requires { ⌜ NumbersRise (now s) f (now slots) ⌝ }
@@ -26,4 +47,16 @@ pub fn find(s: &[u8], f: Field, slots: &[u16], number: u32) -> Find
         }
     }
     Find::Absent
+}
+
+pub fn find(s: &[u8], f: Field, slots: &[u16], number: u32) -> Find
+    requires { ⌜ Within (now s) f ⌝ }
+    requires { ⌜ AllBelow (f .count) (now slots) ⌝ }
+    requires { ⌜ NumbersRise (now s) f (now slots) ⌝ }
+    ensures { λ r. ⌜ Finds (now (s .entry)) f (now (slots .entry)) number r ⌝ }
+{
+    match find_consecutive(s, f, slots, number) {
+        Find::At(i) => Find::At(i),
+        Find::Absent => find_between(s, f, slots, number),
+    }
 }

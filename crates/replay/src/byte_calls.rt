@@ -1,17 +1,6 @@
 // The calls that answer bytes.
 use crate::check::Check;
-use crate::fields;
-ghost use lib.ListN.{length};
-ghost use mathlib.Core.Path.{_≡_};
-
-// What stands in the slice before a call.
-const BEFORE: u8 = 165;
-
-fn space() -> [u8; 4096]
-    ensures { λ r. ⌜ 4096 ≡ length r ⌝ }
-{
-    [BEFORE; 4096]
-}
+use vectors::lent_bytes;
 
 fn by_record(c: Check, section: &[u8], start: usize, output: &mut [u8]) -> usize {
     let call = c.call;
@@ -80,32 +69,11 @@ fn answer(c: Check, section: &[u8], start: usize, output: &mut [u8]) -> usize {
     }
 }
 
-fn expected(checks: &[u8], at: usize, i: usize, held: usize) -> u8 {
-    if i < held {
-        return fields::byte(checks, at);
-    }
-    BEFORE
-}
-
-// Whether the places lent hold the answer, and behind it what they held before.
-fn same(checks: &[u8], first: usize, held: usize, output: &[u8]) -> bool {
-    let mut at = first;
-    let mut i = 0;
-    while i < output.len() {
-        if output[i] != expected(checks, at, i, held) {
-            return false;
-        }
-        at = fields::behind(at, 1);
-        i = i + 1;
-    }
-    true
-}
-
 fn right_in(checks: &[u8], c: Check, section: &[u8], start: usize, output: &mut [u8]) -> bool {
     if answer(c, section, start, output) != c.returned {
         return false;
     }
-    same(checks, c.at, c.held, output)
+    lent_bytes::same(checks, c.at, c.held, output)
 }
 
 pub fn right(checks: &[u8], c: Check, section: &[u8], start: usize) -> bool {
@@ -113,6 +81,6 @@ pub fn right(checks: &[u8], c: Check, section: &[u8], start: usize) -> bool {
     if 4096 < room {
         return false;
     }
-    let mut space = space();
+    let mut space = lent_bytes::space();
     right_in(checks, c, section, start, &mut space[0..room])
 }

@@ -1,5 +1,5 @@
 // One check: a call, what it is lent, and what it must answer. oracle/README.md has the format.
-use crate::fields;
+use vectors::fields;
 
 pub struct Check {
     pub call: u8,
@@ -43,8 +43,5 @@ pub fn next(c: Check) -> usize {
     if answers_bytes(c) {
         return fields::behind(c.at, c.held);
     }
-    if c.held < 1000 {
-        return fields::behind(c.at, 8 * c.held);
-    }
-    fields::behind(c.at, 1000000)
+    fields::behind_u64s(c.at, c.held)
 }

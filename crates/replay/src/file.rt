@@ -1,13 +1,13 @@
-// A file of sections, each with its checks.
+// The checks of a file, made and counted.
 use crate::byte_calls;
 use crate::check;
-use crate::fields;
 use crate::number_calls;
-use crate::tally;
-use libc::STDOUT_FILENO;
+use vectors::file;
+use vectors::file::Place;
+use vectors::tally;
 
 // One check, counted; answers where the next one stands.
-fn make(checks: &[u8], at: usize, section: &[u8], start: usize, tally: &mut [u64; 64]) -> usize {
+fn make_in(checks: &[u8], at: usize, section: &[u8], start: usize, tally: &mut [u64; 64]) -> usize {
     tally::add(tally, tally::CHECKS);
     let c = check::read(checks, at);
     if check::answers_bytes(c) {
@@ -26,94 +26,58 @@ fn make(checks: &[u8], at: usize, section: &[u8], start: usize, tally: &mut [u64
     check::next(c)
 }
 
-fn make_all(checks: &[u8], section: &[u8], start: usize, tally: &mut [u64; 64]) {
-    let mut at = 0;
-    let mut turns = checks.len();
-    while turns > 0 {
-        if checks.len() <= at {
-            return;
-        }
-        at = make(checks, at, section, start, tally);
-        turns = turns - 1;
+// The check at the place. The lengths are those of what was read, so neither is longer than its space.
+fn make(section: &[u8], checks: &[u8], place: Place, tally: &mut [u64; 64]) -> Place {
+    let section_length = place.section_length;
+    let checks_length = place.checks_length;
+    if section.len() < section_length {
+        return place;
     }
-}
-
-fn size(n: u64) -> usize {
-    n as usize
-}
-
-fn fill_and_make(
-    fd: i32,
-    section: &mut [u8],
-    checks: &mut [u8],
-    start: usize,
-    tally: &mut [u64; 64],
-) {
-    io::read_full(fd, section);
-    io::read_full(fd, checks);
-    make_all(checks, section, start, tally);
-}
-
-// One section and its checks, counted, or nothing where they are longer than there is room for.
-fn make_section(
-    fd: i32,
-    start: usize,
-    section_length: usize,
-    checks_length: usize,
-    tally: &mut [u64; 64],
-) {
-    if 4096 < section_length {
-        return;
+    if checks.len() < checks_length {
+        return place;
     }
-    if 65536 < checks_length {
-        return;
-    }
-    let mut section_space = io::buffer();
-    let mut checks_space = io::large_buffer();
-    tally::add(tally, tally::SECTIONS);
-    fill_and_make(
-        fd,
-        &mut section_space[0..section_length],
-        &mut checks_space[0..checks_length],
-        start,
+    let next = make_in(
+        &checks[0..checks_length],
+        place.at,
+        &section[0..section_length],
+        place.start,
         tally,
     );
+    file::moved(place, next)
 }
 
-// The section that comes next in the file; whether there was one.
-fn one_section(fd: i32, tally: &mut [u64; 64]) -> bool {
-    let mut head = [0u8; 16];
-    if io::read_full(fd, &mut head) < 16 {
-        return false;
-    }
-    let start = size(fields::u64_at(&head, 0));
-    let section_length = size(fields::u32_at(&head, 8));
-    let checks_length = size(fields::u32_at(&head, 12));
-    make_section(fd, start, section_length, checks_length, tally);
-    true
-}
-
-fn every_section(fd: i32, tally: &mut [u64; 64]) {
+fn every_check(fd: i32, section: &mut [u8], checks: &mut [u8], tally: &mut [u64; 64]) {
+    let mut place = file::begin();
     let mut turns: u64 = 1000000;
     while turns > 0 {
-        if !one_section(fd, tally) {
+        place = file::next_check(fd, section, checks, place, tally);
+        if place.ended {
             return;
         }
+        place = make(section, checks, place, tally);
         turns = turns - 1;
     }
+}
+
+fn say_rows(tally: &[u64; 64]) {
+    tally::say_row(b"read: ", tally, 0);
+    tally::say_row(b"refused 1: ", tally, 1);
+    tally::say_row(b"refused 2: ", tally, 2);
+    tally::say_row(b"refused 19: ", tally, 19);
+    tally::say_row(b"refused 20: ", tally, 20);
+    tally::say_row(b"bytes: ", tally, tally::BYTES);
 }
 
 // Makes the checks of a file and says how they came out.
 pub fn replay(path: &[u8]) {
-    let fd = os::open_read(path);
+    let fd = file::open(path);
     if fd < 0 {
-        os::fail(path);
         return;
     }
+    let mut section = io::buffer();
+    let mut checks = io::large_buffer();
     let mut tally = [0u64; 64];
-    every_section(fd, &mut tally);
-    libc::close(fd);
-    io::write_all(STDOUT_FILENO, path);
-    io::write_all(STDOUT_FILENO, b":\n");
-    tally::say_all(&tally);
+    every_check(fd, &mut section, &mut checks, &mut tally);
+    file::close(fd, path, &tally);
+    say_rows(&tally);
 }

@@ -2,10 +2,8 @@
 // otherwise. In the second file one number is changed, to show that this is seen.
 mod byte_calls;
 mod check;
-mod fields;
 mod file;
 mod number_calls;
-mod tally;
 
 fn main() {
     file::replay(b"vectors");

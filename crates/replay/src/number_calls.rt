@@ -1,17 +1,6 @@
 // The calls that answer numbers.
 use crate::check::Check;
-use crate::fields;
-ghost use lib.ListN.{length};
-ghost use mathlib.Core.Path.{_≡_};
-
-// What stands in the slice before a call.
-const BEFORE: u64 = 11936128518282651045;
-
-fn space() -> [u64; 64]
-    ensures { λ r. ⌜ 64 ≡ length r ⌝ }
-{
-    [BEFORE; 64]
-}
+use vectors::lent_numbers;
 
 fn by_record(c: Check, section: &[u8], start: usize, values: &mut [u64]) -> u32 {
     let call = c.call;
@@ -96,27 +85,6 @@ fn answer(c: Check, section: &[u8], start: usize, values: &mut [u64]) -> u32 {
     }
 }
 
-fn expected(checks: &[u8], at: usize, i: usize, held: usize) -> u64 {
-    if i < held {
-        return fields::u64_at(checks, at);
-    }
-    BEFORE
-}
-
-// Whether the places lent hold the answer, and behind it what they held before.
-fn same(checks: &[u8], first: usize, held: usize, values: &[u64]) -> bool {
-    let mut at = first;
-    let mut i = 0;
-    while i < values.len() {
-        if values[i] != expected(checks, at, i, held) {
-            return false;
-        }
-        at = fields::behind(at, 8);
-        i = i + 1;
-    }
-    true
-}
-
 fn size(n: u32) -> usize {
     n as usize
 }
@@ -126,7 +94,7 @@ fn right_in(checks: &[u8], c: Check, section: &[u8], start: usize, values: &mut 
     if size(status) != c.returned {
         return false;
     }
-    same(checks, c.at, c.held, values)
+    lent_numbers::same(checks, c.at, c.held, values)
 }
 
 pub fn right(checks: &[u8], c: Check, section: &[u8], start: usize) -> bool {
@@ -134,6 +102,6 @@ pub fn right(checks: &[u8], c: Check, section: &[u8], start: usize) -> bool {
     if 64 < room {
         return false;
     }
-    let mut space = space();
+    let mut space = lent_numbers::space();
     right_in(checks, c, section, start, &mut space[0..room])
 }

@@ -28,6 +28,15 @@ fn zeros() {
     run(b"339: ", &s[0..339]);
 }
 
+fn negative_count() {
+    let mut s = [0u8; 340];
+    s[260] = 255;
+    s[261] = 255;
+    s[262] = 255;
+    s[263] = 255;
+    run(b"bone count -1: ", &s);
+}
+
 fn turned(what: &[u8], x: [u8; 2], y: [u8; 2], w: [u8; 2]) {
     let s = made::turned(x, y, w);
     run(what, &s[0..430]);
@@ -60,7 +69,7 @@ fn links() {
     linked(b"unreached, links 0 and 0: ", 0, 1, 0, 0);
 }
 
-fn short_work() {
+fn short_first() {
     let s = made::linked(1, 1, 0, 0);
     let mut first = [7u16; 2];
     let mut second = [7u16; 2];
@@ -70,6 +79,20 @@ fn short_work() {
         &s,
         &mut first[0..0],
         &mut second,
+        &mut output,
+    );
+}
+
+fn short_second() {
+    let s = made::linked(1, 1, 0, 0);
+    let mut first = [7u16; 2];
+    let mut second = [7u16; 2];
+    let mut output = [238u8; 28];
+    run_lent(
+        b"second slice of 0 places: ",
+        &s,
+        &mut first,
+        &mut second[0..0],
         &mut output,
     );
 }
@@ -90,8 +113,10 @@ fn short_output() {
 
 fn main() {
     zeros();
+    negative_count();
     orientations();
     links();
-    short_work();
+    short_first();
+    short_second();
     short_output();
 }

@@ -69,7 +69,8 @@ fn say_fault(count: usize, fault: Fault) {
         Fault::Wrong(track, link, found, expected) => say_wrong(track, link, found, expected),
         Fault::NegativeFrame(track, frame) => say_track(b"10: ", track, frame),
         Fault::RepeatedFrame(track, frame) => say_track(b"11: ", track, frame),
-        Fault::Body(number, track, frame) => say_body(number, track, frame),
+        Fault::Pose(number, bone, frame) => say_body(number, bone.0 as usize, frame),
+        Fault::Weight(number, morph, frame) => say_body(number, morph.0 as usize, frame),
         Fault::Disconnected(records) => say_size(b"15: ", records),
     }
 }

@@ -85,31 +85,29 @@ module _ (s : List ℕ) (bones morphs : Block) (first second output : List ℕ) 
             short = st .short (passed .ofBones .meets) (passed .ofMorphs .meets);
           }
 
-      module _ (measured : ℕ) (is : measured ≡ length (stripBytes s bones morphs)) where
-        pub output-short : length output < measured → (r : Strip) (first₂ second₂ : List ℕ) → Refuses (StripRefusal.OutputTooShort measured) (bones .records .count + morphs .records .count) first₁ second₁ r first₂ second₂ → Says (outcomeOf first second output (bones .records .count + morphs .records .count) (partsOf s bones morphs)) r first₂ second₂ output
-        output-short less = zeroed-says _ (StripRefusal.OutputTooShort measured) (rw (met-none, is, lt-ltb (length output) (length (stripBytes s bones morphs)) (subst (λ (k : ℕ). length output < k) is less)))
+      pub output-short : (measured : ℕ) → measured ≡ length (stripBytes s bones morphs) → length output < length (stripBytes s bones morphs) → (r : Strip) (first₂ second₂ : List ℕ) → Refuses (StripRefusal.OutputTooShort measured) (bones .records .count + morphs .records .count) first₁ second₁ r first₂ second₂ → Says (outcomeOf first second output (bones .records .count + morphs .records .count) (partsOf s bones morphs)) r first₂ second₂ output
+      output-short measured is less = zeroed-says _ (StripRefusal.OutputTooShort measured) (rw (met-none, is, lt-ltb (length output) (length (stripBytes s bones morphs)) less))
 
-        pub output-room : measured ≤ length output → Room 0 (stripBytes s bones morphs) output
-        output-room fits = omega (arith, is, fits)
-
-        pub written-says : measured ≤ length output → (end : ℕ) (output′ : List ℕ) → Wrote 0 (stripBytes s bones morphs) output end output′ → Says (outcomeOf first second output (bones .records .count + morphs .records .count) (partsOf s bones morphs)) (Strip.Built measured reached left) first₁ second₁ output′
-        written-says fits end output′ w =
-            let wide = le-ltb (length output) (length (stripBytes s bones morphs)) (subst (λ (k : ℕ). k ≤ length output) is fits) in
-            let c = passed in
-            let f₁ = both-over (bones .records .count) (morphs .records .count) _ _ first first₁ (c .ofBones .ordered .positions) (c .ofMorphs .ordered .positions) o₁ (st .firstRoom) in
-            let f₂ = both-over (bones .records .count) (morphs .records .count) _ _ second second₁ (c .ofBones .marked) (c .ofMorphs .marked) o₂ (st .secondRoom) in
-            let r₁ = c .ofBones .followed in
-            let r₂ = c .ofMorphs .followed in
-            let l₁ = c .ofBones .unreached in
-            let l₂ = c .ofMorphs .unreached in
-            let all = c .allReached in
-            let rest = c .allLoose in
-            let er : reached ≡ partsOf s bones morphs .reached = omega (arith, all, r₁, r₂) in
-            let el : left ≡ partsOf s bones morphs .looseOnes = omega (arith, rest, l₁, l₂) in
-            let out : output′ ≡ over (stripBytes s bones morphs) output = w .leaves ∙ placed-first (stripBytes s bones morphs) output in
-            record {
-              answers = rw (met-none, wide) (same-answer measured (length (stripBytes s bones morphs)) reached _ left _ is er el);
-              leavesFirst = rw (met-none, wide) f₁;
-              leavesSecond = rw (met-none, wide) f₂;
-              leavesOutput = rw (met-none, wide) out;
-            }
+      pub written-says : length (stripBytes s bones morphs) ≤ length output → (end : ℕ) (output′ : List ℕ) → Wrote 0 (stripBytes s bones morphs) output end output′ → Says (outcomeOf first second output (bones .records .count + morphs .records .count) (partsOf s bones morphs)) (Strip.Built end reached left) first₁ second₁ output′
+      written-says fits end output′ w =
+          let wide = le-ltb (length output) (length (stripBytes s bones morphs)) fits in
+          let ends = w .ends in
+          let long : end ≡ length (stripBytes s bones morphs) = omega (arith, ends) in
+          let c = passed in
+          let f₁ = both-over (bones .records .count) (morphs .records .count) _ _ first first₁ (c .ofBones .ordered .positions) (c .ofMorphs .ordered .positions) o₁ (st .firstRoom) in
+          let f₂ = both-over (bones .records .count) (morphs .records .count) _ _ second second₁ (c .ofBones .marked) (c .ofMorphs .marked) o₂ (st .secondRoom) in
+          let r₁ = c .ofBones .followed in
+          let r₂ = c .ofMorphs .followed in
+          let l₁ = c .ofBones .unreached in
+          let l₂ = c .ofMorphs .unreached in
+          let all = c .allReached in
+          let rest = c .allLoose in
+          let er : reached ≡ partsOf s bones morphs .reached = omega (arith, all, r₁, r₂) in
+          let el : left ≡ partsOf s bones morphs .looseOnes = omega (arith, rest, l₁, l₂) in
+          let out : output′ ≡ over (stripBytes s bones morphs) output = w .leaves ∙ placed-first (stripBytes s bones morphs) output in
+          record {
+            answers = rw (met-none, wide) (same-answer end (length (stripBytes s bones morphs)) reached _ left _ long er el);
+            leavesFirst = rw (met-none, wide) f₁;
+            leavesSecond = rw (met-none, wide) f₂;
+            leavesOutput = rw (met-none, wide) out;
+          }

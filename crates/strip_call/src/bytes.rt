@@ -1,5 +1,6 @@
 // Document 01, module 6: the strip is measured, and then written.
 ghost use mathlib.Core.Path.{_≡_};
+ghost use lib.Dec.{leb};
 ghost use lib.ListN.{length, replicate};
 ghost use Prim.Native.Nat.{_≤_};
 ghost use Rattle.keys.specs.Placed.{Room, Wrote};
@@ -20,6 +21,17 @@ pub fn strip_length(s: &[u8], bones: Block, morphs: Block, first: &[u16]) -> usi
     let of_bones = tracks::tracks_length(s, bones, bone_part);
     let of_morphs = tracks::tracks_length(s, morphs, morph_part);
     4 + of_bones + of_morphs
+}
+
+// Whether so many bytes are enough. No strip is longer than its section, so where the output is as long nothing is measured.
+pub fn strip_fits(s: &[u8], bones: Block, morphs: Block, first: &[u16], bytes: usize) -> bool
+    requires { ⌜ Readable (now s) bones morphs (now first) ⌝ }
+    ensures { λ r. ⌜ r ≡ leb (length (stripBytes (now (s .entry)) bones morphs)) bytes ⌝ }
+{
+    if s.len() <= bytes {
+        return true;
+    }
+    strip_length(s, bones, morphs, first) <= bytes
 }
 
 pub fn write_strip(s: &[u8], bones: Block, morphs: Block, first: &[u16], output: &mut [u8]) -> usize

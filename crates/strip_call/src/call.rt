@@ -49,12 +49,12 @@ fn strip_blocks(
             refuse(StripRefusal::Morphs(count, fault), need, first, second)
         }
         BuiltClip::Counted(reached, loose) => {
-            let length = bytes::strip_length(s, of_bones, of_morphs, first);
-            if output.len() < length {
-                return refuse(StripRefusal::OutputTooShort(length), need, first, second);
+            if bytes::strip_fits(s, of_bones, of_morphs, first, output.len()) {
+                let length = bytes::write_strip(s, of_bones, of_morphs, first, output);
+                return Strip::Built(length, reached, loose);
             }
-            bytes::write_strip(s, of_bones, of_morphs, first, output);
-            Strip::Built(length, reached, loose)
+            let length = bytes::strip_length(s, of_bones, of_morphs, first);
+            refuse(StripRefusal::OutputTooShort(length), need, first, second)
         }
     }
 }

@@ -23,6 +23,9 @@
    The kind is 0 for a bone, 1 for a morph. A negative i32 is written as its 32-bit pattern (below 2^32). 9 is not met. `values` is
    written from place 0 on as far as it reaches. A refusal leaves `output` as it was; 3 to 15 and 18 leave the first A + B places of
    `first` and `second` 0, other refusals leave them as they were. Later places of every slice stay as they were.
+
+   No strip is longer than its section, and A and B are at most 65,534 each: an output as long as the section is always enough and is
+   filled the fastest, because the strip is then not measured before it is written.
 */
 #ifndef LIMDROVEN_STRIP_H
 #define LIMDROVEN_STRIP_H

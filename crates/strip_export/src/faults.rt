@@ -42,8 +42,12 @@ pub fn refused(numbers: &mut [u64], kind: Kind, count: usize, fault: Fault) -> u
             values::put_on_track(numbers, kind, track, frame);
             11
         }
-        Fault::Body(number, track, frame) => {
-            values::put_body(numbers, track, frame);
+        Fault::Pose(number, bone, frame) => {
+            values::put_body(numbers, bone.0, frame);
+            number as u32
+        }
+        Fault::Weight(number, morph, frame) => {
+            values::put_body(numbers, morph.0, frame);
             number as u32
         }
         Fault::Disconnected(records) => {

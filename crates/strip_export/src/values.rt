@@ -61,7 +61,7 @@ pub fn put_wrong(values: &mut [u64], kind: Kind, track: usize, link: u32, found:
 }
 
 // 12, 13 and 14 say no kind.
-pub fn put_body(values: &mut [u64], track: usize, frame: u32)
+pub fn put_body(values: &mut [u64], track: u32, frame: u32)
     ensures { λ _. ⌜ now (values .exit) ≡ written 0 (map (ofZ w32) (pos track ∷ signed frame ∷ [])) (now (values .entry)) ⌝ }
 {
     let numbers = [track as u64, pattern(frame)];

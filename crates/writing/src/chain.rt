@@ -54,7 +54,12 @@ pub fn measure(s: &[u8], b: Block, slots: &[u16], track: usize) -> Measured
     Measured { records, bytes }
 }
 
-// The records written are counted because no chain has more of them than there are: that is why the loop ends.
+// How many records were written, and where their keys end.
+pub struct Written {
+    pub records: usize,
+    pub end: usize,
+}
+
 pub fn write_records(
     s: &[u8],
     b: Block,
@@ -62,21 +67,22 @@ pub fn write_records(
     track: usize,
     output: &mut [u8],
     place: usize,
-) -> usize
+) -> Written
     requires { ⌜ Ordered (now s) b (now slots) ⌝ }
     requires { ⌜ AllEnd (now s) b ⌝ }
     requires { ⌜ track < b .initials .count ⌝ }
     requires { ⌜ Room place (recordsBytes (now s) b (chainAt (now s) b track)) (now output) ⌝ }
-    ensures { λ r. ⌜ Wrote place (recordsBytes (now (s .entry)) b (chainAt (now (s .entry)) b track)) (now (output .entry)) r (now (output .exit)) ⌝ }
+    ensures { λ r. ⌜ r .records ≡ length (chainAt (now (s .entry)) b track) ⌝ }
+    ensures { λ r. ⌜ Wrote place (recordsBytes (now (s .entry)) b (chainAt (now (s .entry)) b track)) (now (output .entry)) (r .end) (now (output .exit)) ⌝ }
 {
     let mut link = block::first_link(s, b, track);
     let mut records: usize = 0;
-    let mut here = place;
+    let mut end = place;
     while link != 0 {
         let p = position(s, b, slots, link);
-        here = key::write_record(s, b, p, output, here);
+        end = key::write_record(s, b, p, output, end);
         records = records + 1;
         link = block::next_at(s, b, p);
     }
-    here
+    Written { records, end }
 }

@@ -35,8 +35,8 @@ pub fn write_track(
     requires { ⌜ Room place (stripTrack (now s) b track) (now output) ⌝ }
     ensures { λ r. ⌜ Wrote place (stripTrack (now (s .entry)) b track) (now (output .entry)) r (now (output .exit)) ⌝ }
 {
-    let chain = chain::measure(s, b, slots, track);
-    write::write_count(output, place, chain.records + 1);
     let next = key::write_initial(s, b, track, output, place + 2);
-    chain::write_records(s, b, slots, track, output, next)
+    let chain = chain::write_records(s, b, slots, track, output, next);
+    write::write_count(output, place, chain.records + 1);
+    chain.end
 }

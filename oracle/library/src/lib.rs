@@ -1,9 +1,7 @@
 //! The proved library, called as C calls it. A slice is a pointer and a length.
 
-mod safe;
-mod strip;
-
 use calls::{Arguments, Call, Other, Slices};
+use limdroven::raw;
 
 /// Every answer is the library's; only the slices are this crate's.
 pub struct Library;
@@ -14,29 +12,29 @@ impl Other for Library {
         let Arguments { include_index, number, entry } = arguments;
         let (number, entry) = (place(number), place(entry));
         match call {
-            Call::ModelSummary => safe::model_summary(section, start, values),
-            Call::BoneKeyframe => safe::bone_keyframe(section, start, include_index, number, values),
-            Call::MorphKeyframe => safe::morph_keyframe(section, start, include_index, number, values),
-            Call::ModelKeyframe => safe::model_keyframe(section, start, include_index, number, values),
+            Call::ModelSummary => raw::model_summary(section, start, values),
+            Call::BoneKeyframe => raw::bone_keyframe(section, start, include_index, number, values),
+            Call::MorphKeyframe => raw::morph_keyframe(section, start, include_index, number, values),
+            Call::ModelKeyframe => raw::model_keyframe(section, start, include_index, number, values),
             Call::ModelKeyframeConstraintState => {
-                safe::model_keyframe_constraint_state(section, start, include_index, number, entry, values)
+                raw::model_keyframe_constraint_state(section, start, include_index, number, entry, values)
             }
             Call::ModelKeyframeOutsideParent => {
-                safe::model_keyframe_outside_parent(section, start, include_index, number, entry, values)
+                raw::model_keyframe_outside_parent(section, start, include_index, number, entry, values)
             }
-            Call::BoneState => safe::bone_state(section, start, number, values),
-            Call::MorphState => safe::morph_state(section, start, number, values),
-            Call::ConstraintState => safe::constraint_state(section, start, number, values),
-            Call::OutsideParentState => safe::outside_parent_state(section, start, number, values),
-            Call::NameSpan => safe::name_span(section, start, values),
-            Call::EnglishNameSpan => safe::english_name_span(section, start, values),
-            Call::PathSpan => safe::path_span(section, start, values),
-            Call::BoneNameSpan => safe::bone_name_span(section, start, number, values),
-            Call::MorphNameSpan => safe::morph_name_span(section, start, number, values),
-            Call::CameraSummary => safe::camera_summary(section, start, values),
-            Call::LightSummary => safe::light_summary(section, start, values),
-            Call::CameraKeyframe => safe::camera_keyframe(section, start, include_index, number, values),
-            Call::LightKeyframe => safe::light_keyframe(section, start, include_index, number, values),
+            Call::BoneState => raw::bone_state(section, start, number, values),
+            Call::MorphState => raw::morph_state(section, start, number, values),
+            Call::ConstraintState => raw::constraint_state(section, start, number, values),
+            Call::OutsideParentState => raw::outside_parent_state(section, start, number, values),
+            Call::NameSpan => raw::name_span(section, start, values),
+            Call::EnglishNameSpan => raw::english_name_span(section, start, values),
+            Call::PathSpan => raw::path_span(section, start, values),
+            Call::BoneNameSpan => raw::bone_name_span(section, start, number, values),
+            Call::MorphNameSpan => raw::morph_name_span(section, start, number, values),
+            Call::CameraSummary => raw::camera_summary(section, start, values),
+            Call::LightSummary => raw::light_summary(section, start, values),
+            Call::CameraKeyframe => raw::camera_keyframe(section, start, include_index, number, values),
+            Call::LightKeyframe => raw::light_keyframe(section, start, include_index, number, values),
             _ => unreachable!("{} answers bytes", call.name()),
         }
     }
@@ -46,25 +44,26 @@ impl Other for Library {
         let Arguments { include_index, number, .. } = arguments;
         let number = place(number);
         let length = match call {
-            Call::Name => safe::name(section, start, output),
-            Call::EnglishName => safe::english_name(section, start, output),
-            Call::Path => safe::path(section, start, output),
-            Call::BoneName => safe::bone_name(section, start, number, output),
-            Call::MorphName => safe::morph_name(section, start, number, output),
-            Call::BonePayload => safe::bone_payload(section, start, include_index, number, output),
-            Call::MorphPayload => safe::morph_payload(section, start, include_index, number, output),
-            Call::ModelPayload => safe::model_payload(section, start, include_index, number, output),
-            Call::CameraPayload => safe::camera_payload(section, start, include_index, number, output),
-            Call::LightPayload => safe::light_payload(section, start, include_index, number, output),
-            Call::CameraInterpolation => safe::camera_interpolation(section, start, include_index, number, output),
-            Call::BoneInterpolation => safe::bone_interpolation(section, start, include_index, number, output),
+            Call::Name => raw::name(section, start, output),
+            Call::EnglishName => raw::english_name(section, start, output),
+            Call::Path => raw::path(section, start, output),
+            Call::BoneName => raw::bone_name(section, start, number, output),
+            Call::MorphName => raw::morph_name(section, start, number, output),
+            Call::BonePayload => raw::bone_payload(section, start, include_index, number, output),
+            Call::MorphPayload => raw::morph_payload(section, start, include_index, number, output),
+            Call::ModelPayload => raw::model_payload(section, start, include_index, number, output),
+            Call::CameraPayload => raw::camera_payload(section, start, include_index, number, output),
+            Call::LightPayload => raw::light_payload(section, start, include_index, number, output),
+            Call::CameraInterpolation => raw::camera_interpolation(section, start, include_index, number, output),
+            Call::BoneInterpolation => raw::bone_interpolation(section, start, include_index, number, output),
             _ => unreachable!("{} answers numbers", call.name()),
         };
         length as u64
     }
 
     fn strip(&self, section: &[u8], start: u64, slices: &mut Slices) -> u32 {
-        strip::strip(section, place(start), slices)
+        let Slices { first, second, output, values } = slices;
+        raw::strip(section, place(start), first, second, output, values)
     }
 }
 

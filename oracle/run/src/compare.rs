@@ -11,8 +11,8 @@ use crate::expected::{Expected, Summary};
 use crate::strips::Strips;
 
 /// What stands in a lent slice before a call.
-const BEFORE: u8 = 0xa5;
-const BEFORE_NUMBER: u64 = 0xa5a5_a5a5_a5a5_a5a5;
+pub const BEFORE: u8 = 0xa5;
+pub const BEFORE_NUMBER: u64 = 0xa5a5_a5a5_a5a5_a5a5;
 
 /// A second call in so many checks is made with a shorter slice.
 const SHORTER_EVERY: u64 = 4;

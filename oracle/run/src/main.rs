@@ -2,7 +2,8 @@
 //! `oracle compare [CASES] [SEED]` holds the proved library against it.
 //! `oracle sample [CASES] [SEED]` does so with a sample of the calls, to take in more cases.
 //! `oracle bench` times both on the same sections; `oracle profile SHAPE N` makes one strip call on one of them.
-//! `oracle vectors CRATE` writes a sample of the Rust's answers for the program that replays them.
+//! `oracle vectors CRATE` writes a sample of the Rust's answers for the program that replays them, and
+//! `oracle strip-vectors CRATE` one of strip calls.
 //! `oracle seeds FOLDER [FILES] [SEED]` writes generated sections as files for the fuzzer.
 //! `oracle case SEED NUMBER` shows one case and what is expected of it.
 //! `oracle apart COUNT` runs the Rust alone on 340 zero bytes but for the count of additional bones, and may abort.
@@ -16,7 +17,7 @@ use generate::case;
 use run::compare::Extent;
 use run::expected::{Expected, Summary, expected};
 use run::tally::Tally;
-use run::{seeds, vectors};
+use run::{seeds, strip_vectors, vectors};
 
 /// `oracle sample` makes one in so many of the calls besides the summary and the strip call.
 const SAMPLED: u64 = 16;
@@ -30,19 +31,17 @@ fn main() -> ExitCode {
         (Some("sample"), _) => compare(number(1).unwrap_or(100_000), number(2).unwrap_or(1), Extent::Sampled(SAMPLED)),
         (Some("bench"), _) => bench(),
         (Some("profile"), Some(shape)) => profile(shape, number(2).unwrap_or(10_000)),
-        (Some("vectors"), Some(folder)) => written(vectors::write(Path::new(folder))),
+        (Some("vectors"), Some(folder)) => written(vectors::files().write(Path::new(folder))),
+        (Some("strip-vectors"), Some(folder)) => written(strip_vectors::files().write(Path::new(folder))),
         (Some("seeds"), Some(folder)) => {
             written(seeds::write(Path::new(folder), number(2).unwrap_or(2_000), number(3).unwrap_or(1)))
         }
         (Some("case"), _) => one(number(1).unwrap_or(1), number(2).unwrap_or(0)),
         (Some("apart"), _) => apart(number(1).unwrap_or(i32::MAX as u64)),
         _ => {
-            eprintln!(
-                "oracle self [CASES] [SEED]\noracle compare [CASES] [SEED]\noracle sample [CASES] [SEED]\noracle bench\noracle profile SHAPE N"
-            );
-            eprintln!(
-                "oracle vectors CRATE\noracle seeds FOLDER [FILES] [SEED]\noracle case SEED NUMBER\noracle apart COUNT"
-            );
+            eprintln!("oracle self [CASES] [SEED]\noracle compare [CASES] [SEED]\noracle sample [CASES] [SEED]");
+            eprintln!("oracle bench\noracle profile SHAPE N\noracle seeds FOLDER [FILES] [SEED]");
+            eprintln!("oracle vectors CRATE\noracle strip-vectors CRATE\noracle case SEED NUMBER\noracle apart COUNT");
             ExitCode::FAILURE
         }
     }

@@ -12,7 +12,7 @@ use crate::compare::Extent;
 
 /// How many places are lent besides those needed, in the first and second work slice and the output. Fewer than none
 /// are none.
-const ROOMS: [(&str, [isize; 3]); 8] = [
+pub const ROOMS: [(&str, [isize; 3]); 8] = [
     ("longer", [7, 5, 9]),
     ("just enough", [0, 0, 0]),
     ("first one too short", [-1, 0, 0]),
@@ -24,7 +24,13 @@ const ROOMS: [(&str, [isize; 3]); 8] = [
 ];
 
 /// More values than any answer has.
-const MOST_VALUES: u64 = 8;
+pub const MOST_VALUES: u64 = 8;
+
+/// How many places are lent in the first and second work slice and the output, where so many are needed.
+pub fn lent(room: usize, needs: [usize; 3]) -> [usize; 3] {
+    let (_, more) = ROOMS[room];
+    [0, 1, 2].map(|slice| needs[slice].saturating_add_signed(more[slice]))
+}
 
 #[derive(Default)]
 pub struct Strips {
@@ -63,8 +69,8 @@ impl Strips {
         other: &impl Other,
     ) -> Option<String> {
         self.calls += 1;
-        let (name, more) = ROOMS[room];
-        let [first, second, output] = [0, 1, 2].map(|slice| needs[slice].saturating_add_signed(more[slice]));
+        let name = ROOMS[room].0;
+        let [first, second, output] = lent(room, needs);
         let values = if room == 0 { MOST_VALUES } else { self.calls % MOST_VALUES };
         let before = Slices {
             first: before(first, self.calls),

@@ -2,8 +2,6 @@
 
 use std::collections::{BTreeMap, BTreeSet};
 use std::fmt::Write as _;
-use std::path::Path;
-use std::{fs, io};
 
 use calls::call::CALLS;
 use calls::{Answer, Call, Check};
@@ -11,36 +9,20 @@ use generate::{Case, Kind};
 
 use crate::compare::{each_check, lent};
 use crate::expected::{Expected, expected};
+use crate::vector_file::{Files, LONGEST_SECTION, ROOM_FOR_BYTES, ROOM_FOR_NUMBERS, Written, bytes, u16_bytes};
 
 const SEED: u64 = 1;
 const MOST_BYTES: usize = 290_000;
-const LONGEST_SECTION: usize = 1_400;
-/// What the program has room for: a section, its checks, and the slices that it lends.
-const ROOM_FOR_SECTION: usize = 4_096;
-const ROOM_FOR_CHECKS: usize = 65_536;
-const ROOM_FOR_NUMBERS: usize = 64;
-const ROOM_FOR_BYTES: usize = 4_096;
 
-/// The checks of one section, as they are written.
-struct Vector {
-    family: &'static str,
-    start: u64,
-    section: Vec<u8>,
-    checks: Vec<Check>,
-}
+type Vector = crate::vector_file::Vector<Check>;
 
-/// Writes `data/vectors`, `data/broken` and `stdout` below a crate's folder, and tells what was taken.
-pub fn write(folder: &Path) -> io::Result<String> {
+pub fn files() -> Files {
     let vectors = sample();
-    let broken = broken(&vectors);
-    let data = folder.join("data");
-    fs::create_dir_all(&data)?;
-    let file: Vec<u8> = vectors.iter().flat_map(Vector::bytes).collect();
-    fs::write(data.join("vectors"), &file)?;
-    fs::write(data.join("broken"), broken.bytes())?;
-    let said = said("vectors", &vectors, 0) + &said("broken", &[broken], 1);
-    fs::write(folder.join("stdout"), said)?;
-    Ok(told(&vectors, file.len()))
+    let broken = [broken(&vectors)];
+    let file = bytes(&vectors);
+    let stdout = said("vectors", &vectors, 0) + &said("broken", &broken, 1);
+    let told = told(&vectors, file.len());
+    Files { vectors: file, broken: bytes(&broken), stdout, told }
 }
 
 /// Sections by hand, then from each family some of each kind and outcome.
@@ -87,44 +69,31 @@ fn vector(family: &'static str, turn: usize, case: &Case) -> Vector {
     Vector { family, start: case.start, section: case.section.clone(), checks }
 }
 
-impl Vector {
-    fn bytes(&self) -> Vec<u8> {
-        let checks: Vec<u8> = self.checks.iter().enumerate().flat_map(|(turn, check)| written(turn, check)).collect();
-        assert!(self.section.len() <= ROOM_FOR_SECTION && checks.len() <= ROOM_FOR_CHECKS);
-        let mut out = self.start.to_le_bytes().to_vec();
-        out.extend((self.section.len() as u32).to_le_bytes());
-        out.extend((checks.len() as u32).to_le_bytes());
-        out.extend(&self.section);
-        out.extend(checks);
+impl Written for Check {
+    /// Every fourth check lends a slice that is too short, just long enough or one longer; the others lend more.
+    fn written(&self, turn: usize) -> Vec<u8> {
+        let Check { call, arguments, answer } = self;
+        let room = |need| lent(need, if turn % 4 == 3 { turn / 4 % 6 } else { usize::MAX });
+        let (room, returned, answer): (usize, usize, Vec<Vec<u8>>) = match answer {
+            Answer::Numbers(status, numbers) => {
+                let room = room(numbers.len());
+                assert!(room <= ROOM_FOR_NUMBERS);
+                (room, *status as usize, numbers.iter().map(|number| number.to_le_bytes().to_vec()).collect())
+            }
+            Answer::Bytes(bytes) => {
+                let room = room(bytes.len());
+                assert!(room <= ROOM_FOR_BYTES);
+                (room, bytes.len(), bytes.iter().map(|byte| vec![*byte]).collect())
+            }
+        };
+        let held = room.min(answer.len());
+        let mut out = vec![*call as u8, u8::from(arguments.include_index)];
+        [room, returned, held].into_iter().for_each(|number| out.extend(u16_bytes(number)));
+        out.extend(arguments.number.to_le_bytes());
+        out.extend(arguments.entry.to_le_bytes());
+        out.extend(answer[..held].concat());
         out
     }
-}
-
-/// Every fourth check lends a slice that is too short, just long enough or one longer; the others lend more.
-fn written(turn: usize, check: &Check) -> Vec<u8> {
-    let Check { call, arguments, answer } = check;
-    let room = |need| lent(need, if turn % 4 == 3 { turn / 4 % 6 } else { usize::MAX });
-    let (room, returned, answer): (usize, usize, Vec<Vec<u8>>) = match answer {
-        Answer::Numbers(status, numbers) => {
-            let room = room(numbers.len());
-            assert!(room <= ROOM_FOR_NUMBERS);
-            (room, *status as usize, numbers.iter().map(|number| number.to_le_bytes().to_vec()).collect())
-        }
-        Answer::Bytes(bytes) => {
-            let room = room(bytes.len());
-            assert!(room <= ROOM_FOR_BYTES);
-            (room, bytes.len(), bytes.iter().map(|byte| vec![*byte]).collect())
-        }
-    };
-    let held = room.min(answer.len());
-    let mut out = vec![*call as u8, u8::from(arguments.include_index)];
-    for number in [room, returned, held] {
-        out.extend(u16::try_from(number).expect("16 bits").to_le_bytes());
-    }
-    out.extend(arguments.number.to_le_bytes());
-    out.extend(arguments.entry.to_le_bytes());
-    out.extend(answer[..held].concat());
-    out
 }
 
 /// One section's checks, with one number of the summary changed.

@@ -1,6 +1,5 @@
 -- `before_zero` meets its contract: no zero stands among the bytes passed. Assumes nothing.
 use Prim.Native.Nat.{_-_, _≤_}
-use mathlib.Core.Path.{refl}
 use native.Mathlib.Omega.{arith}
 use lib.ListN.{take, drop}
 use Rattle.binary.proofs.Zero.{Passed, part-more, part-here, part-whole}
@@ -14,7 +13,7 @@ abbrev μ-loop : tie.MeasureT-loop
 μ-loop s at width i₀ i = width - i
 
 loop-holds : tie.Need-loop-holds Inv-loop μ-loop
-loop-holds c = (omega arith, refl)
+loop-holds c = (omega arith, omega arith)
 
 add-if1 : tie.Need-add-if1 Inv-loop μ-loop
 add-if1 c = omega arith
@@ -35,7 +34,7 @@ loop-again : tie.Need-loop-again Inv-loop μ-loop
 loop-again c = (omega arith, part-more _ _ _ (c .before .before .before .before .pre) _ (c .before .before .before .loop .inv .1) (c .before .before .loop-test .taken) (c .if1 .left))
 
 returns-2 : tie.Need-returns-2 Inv-loop μ-loop
-returns-2 c = part-whole _ _ _ (c .before .before .pre) _ (c .before .loop .inv .1) (c .loop-test .left) (c .before .loop .inv .0)
+returns-2 c = part-whole _ _ _ (c .before .before .pre) _ (c .before .loop .inv .1) (c .loop-test .left)
 
 pub before-zero-spec : {M : Type 1} → statement M
 before-zero-spec =

@@ -1,11 +1,8 @@
 -- `read_fixed_string` meets its contract: the tests say whether the field is whole. Assumes nothing.
-use Prim.Native.Nat.{_≤_}
-use mathlib.Core.Path.{sym, _∙_}
+use mathlib.Core.Path.{sym, ap, _∙_}
 use native.Mathlib.Omega.{arith}
-use lib.ListN.{drop}
-use lib.Seq.{take-take}
+use Rattle.layout.specs.Walk.{part}
 use Rattle.layout.proofs.Steps.{whole, short, value-is}
-use Rattle.binary.proofs.Zero.{field-length}
 use borrow.Author.Needs.{needs}
 use Rattle.binary.proofs.strings.read_fixed_string.Statement.{statement}
 use Rattle.binary.proofs.strings.read_fixed_string.Tie as tie
@@ -26,13 +23,7 @@ add-t5 : tie.Need-add-t5
 add-t5 c = search needs
 
 returns-3 : tie.Need-returns-3
-returns-3 c =
-    let a = c .before .before .before .before .args in
-    let n = c .before-zero .result in
-    let fits = field-length (a .s .now) (a .at) (a .width) (omega arith) in
-    let few : n ≤ a .width = omega (arith, c .before-zero .ensures .within) in
-    value-is _ _ _ _ (sym (take-take n (a .width) (drop (a .at) (a .s .now)) few) ∙ c .before-zero .ensures .is)
-    ∙ sym (whole _ _ _ _ (omega arith))
+returns-3 c = value-is _ _ _ _ (ap (part _) (c .before-zero .ensures)) ∙ sym (whole _ _ _ _ (omega arith))
 
 pub read-fixed-string-spec : {M : Type 1} → statement M
 read-fixed-string-spec =

@@ -35,7 +35,7 @@ loop-again c =
     let read = c .before .before .before .read-variable-string in
     let test = c .before .before .before .before .loop-test in
     let turn = c .before .before .before .before .before .loop in
-    turn .inv ∙ times-turn string _ _ _ _ _ (test .taken) (sym (read .ensures) ∙ ap (stringRead _) (c .before .behind .given .1))
+    turn .inv ∙ times-turn string _ _ _ _ _ (test .taken) (sym (read .ensures) ∙ ap stringRead (c .before .behind .given .1))
 
 enum-known-place : tie.Need-enum-known-place Inv-loop μ-loop
 enum-known-place c = search needs
@@ -45,7 +45,7 @@ returns c =
     let read = c .before .before .before .read-variable-string in
     let test = c .before .before .before .before .loop-test in
     let turn = c .before .before .before .before .before .loop in
-    sym (turn .inv ∙ times-stop string _ _ _ _ (test .taken) (sym (read .ensures) ∙ ap (stringRead _) (c .before .place .given .1)))
+    sym (turn .inv ∙ times-stop string _ _ _ _ (test .taken) (sym (read .ensures) ∙ ap stringRead (c .before .place .given .1)))
 
 returns-2 : tie.Need-returns-2 Inv-loop μ-loop
 returns-2 c = sym (c .before .loop .inv ∙ times-done string _ _ _ (c .loop-test .left))

@@ -22,8 +22,10 @@ unfolding initialAt
 key-requires c κs =
     let start = c .before .before .before in
     let fits = initial-fits (start .args .s .now) (start .args .b) (start .pre .0) (start .args .track) (start .pre .1) in
+    let few = start .pre .0 .fewTracks in
+    let track = start .pre .1 in
     let is = c .first-body .ensures in
-    omega (arith, fits, is)
+    (omega (arith, fits, is), omega (arith, few, track))
 
 returns : tie.Need-returns
 returns c = c .key .ensures ∙ ap (λ (f : ℕ). keyMeets (c .before .before .before .before .args .s .now) (c .before .before .before .before .args .b .kind) (c .before .before .before .before .args .track) f (c .before .first-body .result) false) (c .before .before .first-frame .ensures) ∙ ap (λ (o : ℕ). keyMeets (c .before .before .before .before .args .s .now) (c .before .before .before .before .args .b .kind) (c .before .before .before .before .args .track) (links (c .before .before .before .before .args .s .now) (c .before .before .before .before .args .b) .initial (c .before .before .before .before .args .track) .frame) o false) (c .before .first-body .ensures)

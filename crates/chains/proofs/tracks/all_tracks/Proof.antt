@@ -151,7 +151,8 @@ record-key-requires c κs =
     let n = c .before .before .before .before .n .given .0 .0 in
     let again = c .before .before .before .before .n .given .0 .1 .0 in
     let k = keyed s b (outer .track) list (call .result) (call .ensures .0) n again (c .before .before .before .before .n .given .1) in
-    (start .pre .0 .fits, position-below s b (start .args .slots .now) (start .pre .0) (outer .track) (c .before .before .before .before .before .before .before .before .before .before .if1 .taken) list room n again k (c .before .before .loop .i) (c .before .loop-test .taken))
+    let is-track = c .before .before .before .before .before .before .before .before .before .before .if1 .taken in
+    (start .pre .0 .fits, (position-below s b (start .args .slots .now) (start .pre .0) (outer .track) is-track list room n again k (c .before .before .loop .i) (c .before .loop-test .taken), is-track))
 
 enum-told : tie.Need-enum-told Inv-loop μ-loop Inv-tracks μ-tracks
 enum-told c = search needs

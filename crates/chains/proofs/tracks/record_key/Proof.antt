@@ -20,9 +20,11 @@ key-requires : tie.Need-key-requires
 unfolding additionalAt
 key-requires c κs =
     let start = c .before .before .before in
-    let fits = record-fits (start .args .s .now) (start .args .b) (start .pre .0) (start .args .p) (start .pre .1) in
+    let fits = record-fits (start .args .s .now) (start .args .b) (start .pre .0) (start .args .p) (start .pre .1 .0) in
+    let few = start .pre .0 .fewTracks in
+    let track = start .pre .1 .1 in
     let is = c .body-at .ensures in
-    omega (arith, fits, is)
+    (omega (arith, fits, is), omega (arith, few, track))
 
 returns : tie.Need-returns
 returns c =

@@ -1,6 +1,8 @@
 -- `text_span` meets its contract: what was found is refused, or its two numbers are written. Assumes nothing.
 use mathlib.Core.Path.{_≡_, refl}
-use Rattle.exports.proofs.Spanned.{span-said}
+use Rattle.lists.specs.Answers.{textSpanRead}
+use Rattle.numbers.proofs.Said.{said-answer, said-refusal}
+use Rattle.exports.specs.Spans.{span}
 use borrow.Author.Needs.{needs}
 use Rattle.exports.proofs.spans.text_span.Statement.{statement}
 use Rattle.exports.proofs.spans.text_span.Tie as tie
@@ -24,13 +26,13 @@ same-length : tie.Need-same-length
 same-length c = search needs
 
 returns : tie.Need-returns
-returns c = span-said _ _ _ _ _ _ _ (c .before .before .before .before .before .before .before .text-span .ensures) (c .before .before .before .before .before .why .given .1) (c .before .before .refused .ensures .0) (c .before .before .refused .ensures .1)
+returns c = said-refusal span textSpanRead _ _ _ (c .before .before .before .before .before .before .before .text-span .ensures) (c .before .before .before .before .before .why .given .1) _ _ _ _ refl (c .before .before .refused .ensures)
 
 same-length-2 : tie.Need-same-length-2
 same-length-2 c = search needs
 
 returns-2 : tie.Need-returns-2
-returns-2 c = span-said _ _ _ _ _ _ _ (c .before .before .before .before .before .before .before .text-span .ensures) (c .before .before .before .before .before .offset .given .1) refl (c .before .before .put-span .ensures)
+returns-2 c = said-answer span textSpanRead _ _ _ (c .before .before .before .before .before .before .before .text-span .ensures) (c .before .before .before .before .before .offset .given .1) _ _ _ refl (c .before .before .put-span .ensures)
 
 pub text-span-spec : {M : Type 1} → statement M
 text-span-spec =

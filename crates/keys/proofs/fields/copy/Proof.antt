@@ -1,4 +1,4 @@
--- `copy` meets its contract: in each turn one byte more is copied. Assumes nothing.
+-- `copy` meets its contract: in each turn one float more is copied. Assumes nothing.
 use Rattle.keys.proofs.Stores.{Copied, copied-none, copied-more, copied-all}
 use native.Mathlib.Omega.{arith}
 use Prim.Native.Nat.{_-_}
@@ -6,25 +6,28 @@ use Rattle.keys.proofs.fields.copy.Statement.{statement}
 use Rattle.keys.proofs.fields.copy.Tie as tie
 
 abbrev Inv-loop : tie.InvT-loop
-Inv-loop s from n output₀ place i₀ output i = Copied s from n output₀ place output i
+Inv-loop s from floats output₀ place i₀ output i = Copied s from floats output₀ place output i
 
 abbrev μ-loop : tie.MeasureT-loop
-μ-loop s from n output₀ place i₀ output i = n - i
+μ-loop s from floats output₀ place i₀ output i = floats - i
 
 loop-holds : tie.Need-loop-holds Inv-loop μ-loop
 loop-holds c = copied-none _ _ _ _ _
 
-add-output : tie.Need-add-output Inv-loop μ-loop
-add-output c = omega arith
+mul-copy-word : tie.Need-mul-copy-word Inv-loop μ-loop
+mul-copy-word c = omega arith
 
-shared-slice-read-output : tie.Need-shared-slice-read-output Inv-loop μ-loop
-shared-slice-read-output c = omega arith
+add-copy-word : tie.Need-add-copy-word Inv-loop μ-loop
+add-copy-word c = omega arith
 
-add-output-2 : tie.Need-add-output-2 Inv-loop μ-loop
-add-output-2 c = omega arith
+mul-copy-word-2 : tie.Need-mul-copy-word-2 Inv-loop μ-loop
+mul-copy-word-2 c = omega arith
 
-slice-write-output : tie.Need-slice-write-output Inv-loop μ-loop
-slice-write-output c = omega arith
+add-copy-word-2 : tie.Need-add-copy-word-2 Inv-loop μ-loop
+add-copy-word-2 c = omega arith
+
+copy-word-requires : tie.Need-copy-word-requires Inv-loop μ-loop
+copy-word-requires c κs = let same = c .before .before .loop .inv .same in (omega arith, omega (arith, same))
 
 add-i : tie.Need-add-i Inv-loop μ-loop
 add-i c = omega arith
@@ -33,7 +36,7 @@ loop-less : tie.Need-loop-less Inv-loop μ-loop
 loop-less c = omega arith
 
 loop-again : tie.Need-loop-again Inv-loop μ-loop
-loop-again c = copied-more _ _ _ _ _ _ _ (omega arith) (omega arith) (c .before .before .loop .inv)
+loop-again c = copied-more _ _ _ _ _ _ _ _ (c .before .before .before .before .before .before .before .before .pre .1) (c .before .before .before .before .loop-test .taken) (c .before .before .before .before .before .loop .inv) (c .before .before .copy-word .ensures)
 
 same-length : tie.Need-same-length Inv-loop μ-loop
 same-length c = c .before .loop .inv .same
@@ -48,10 +51,11 @@ copy-spec =
     Inv-loop
     μ-loop
     loop-holds
-    add-output
-    shared-slice-read-output
-    add-output-2
-    slice-write-output
+    mul-copy-word
+    add-copy-word
+    mul-copy-word-2
+    add-copy-word-2
+    copy-word-requires
     add-i
     loop-less
     loop-again

@@ -5,14 +5,14 @@ use borrow.Author.Needs.{needs}
 use Rattle.keys.proofs.pose.weight_at.Statement.{statement}
 use Rattle.keys.proofs.pose.weight_at.Tie as tie
 
-word-requires : tie.Need-word-requires
-word-requires c κs = search needs
+u32-at-requires : tie.Need-u32-at-requires
+u32-at-requires c κs = search needs
 
 float-requires : tie.Need-float-requires
 float-requires c κs = search needs
 
 returns : tie.Need-returns
-returns c = c .float .ensures ∙ rw (c .before .word .ensures) (weight-is _ _)
+returns c = c .float .ensures ∙ rw (c .before .u32-at .ensures) (weight-is _ _)
 
 pub weight-at-spec : {M : Type 1} → statement M
-weight-at-spec = tie.close (tie.spec word-requires float-requires returns)
+weight-at-spec = tie.close (tie.spec u32-at-requires float-requires returns)

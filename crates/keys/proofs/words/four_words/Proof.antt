@@ -3,39 +3,39 @@ use borrow.Author.Needs.{needs}
 use Rattle.keys.proofs.words.four_words.Statement.{statement}
 use Rattle.keys.proofs.words.four_words.Tie as tie
 
-word-requires : tie.Need-word-requires
-word-requires c κs = search needs
+u32-at-requires : tie.Need-u32-at-requires
+u32-at-requires c κs = search needs
 
-add-word : tie.Need-add-word
-add-word c = search needs
+add-u32-at : tie.Need-add-u32-at
+add-u32-at c = search needs
 
-word-requires-2 : tie.Need-word-requires-2
-word-requires-2 c κs = search needs
+u32-at-requires-2 : tie.Need-u32-at-requires-2
+u32-at-requires-2 c κs = search needs
 
-add-word-2 : tie.Need-add-word-2
-add-word-2 c = search needs
+add-u32-at-2 : tie.Need-add-u32-at-2
+add-u32-at-2 c = search needs
 
-word-requires-3 : tie.Need-word-requires-3
-word-requires-3 c κs = search needs
+u32-at-requires-3 : tie.Need-u32-at-requires-3
+u32-at-requires-3 c κs = search needs
 
-add-word-3 : tie.Need-add-word-3
-add-word-3 c = search needs
+add-u32-at-3 : tie.Need-add-u32-at-3
+add-u32-at-3 c = search needs
 
-word-requires-4 : tie.Need-word-requires-4
-word-requires-4 c κs = search needs
+u32-at-requires-4 : tie.Need-u32-at-requires-4
+u32-at-requires-4 c κs = search needs
 
 returns : tie.Need-returns
-returns c = rw (c .before .before .before .word .ensures, c .before .before .word2 .ensures, c .before .word3 .ensures, c .word4 .ensures)
+returns c = rw (c .before .before .before .u32-at .ensures, c .before .before .u32-at2 .ensures, c .before .u32-at3 .ensures, c .u32-at4 .ensures)
 
 pub four-words-spec : {M : Type 1} → statement M
 four-words-spec =
     tie.close
     (tie.spec
-    word-requires
-    add-word
-    word-requires-2
-    add-word-2
-    word-requires-3
-    add-word-3
-    word-requires-4
+    u32-at-requires
+    add-u32-at
+    u32-at-requires-2
+    add-u32-at-2
+    u32-at-requires-3
+    add-u32-at-3
+    u32-at-requires-4
     returns)

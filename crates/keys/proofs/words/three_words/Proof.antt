@@ -3,24 +3,24 @@ use borrow.Author.Needs.{needs}
 use Rattle.keys.proofs.words.three_words.Statement.{statement}
 use Rattle.keys.proofs.words.three_words.Tie as tie
 
-word-requires : tie.Need-word-requires
-word-requires c κs = search needs
+u32-at-requires : tie.Need-u32-at-requires
+u32-at-requires c κs = search needs
 
-add-word : tie.Need-add-word
-add-word c = search needs
+add-u32-at : tie.Need-add-u32-at
+add-u32-at c = search needs
 
-word-requires-2 : tie.Need-word-requires-2
-word-requires-2 c κs = search needs
+u32-at-requires-2 : tie.Need-u32-at-requires-2
+u32-at-requires-2 c κs = search needs
 
-add-word-2 : tie.Need-add-word-2
-add-word-2 c = search needs
+add-u32-at-2 : tie.Need-add-u32-at-2
+add-u32-at-2 c = search needs
 
-word-requires-3 : tie.Need-word-requires-3
-word-requires-3 c κs = search needs
+u32-at-requires-3 : tie.Need-u32-at-requires-3
+u32-at-requires-3 c κs = search needs
 
 returns : tie.Need-returns
-returns c = rw (c .before .before .word .ensures, c .before .word2 .ensures, c .word3 .ensures)
+returns c = rw (c .before .before .u32-at .ensures, c .before .u32-at2 .ensures, c .u32-at3 .ensures)
 
 pub three-words-spec : {M : Type 1} → statement M
 three-words-spec =
-    tie.close (tie.spec word-requires add-word word-requires-2 add-word-2 word-requires-3 returns)
+    tie.close (tie.spec u32-at-requires add-u32-at u32-at-requires-2 add-u32-at-2 u32-at-requires-3 returns)

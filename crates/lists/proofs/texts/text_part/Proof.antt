@@ -1,5 +1,6 @@
 -- `text_part` meets its contract. Assumes nothing.
 use mathlib.Core.Path.{refl, ap}
+use Rattle.layout.specs.Walk.{Answer, Part}
 use Rattle.lists.specs.Parts.{partOr}
 use Rattle.lists.specs.Answers.{textSpanRead}
 use Rattle.lists.proofs.Handed.{handed}
@@ -23,10 +24,14 @@ part-requires : tie.Need-part-requires
 part-requires c κs = search needs
 
 returns : tie.Need-returns
-returns c = handed partOr _ _ _ _ (c .before .before .before .text-span .ensures) (ap (textSpanRead _) (c .before .enum-told .given .1)) refl
+returns c =
+    handed (λ (a : Answer Part). partOr a (c .before .before .before .before .before .args .section .now)) _ _ _ _
+    (c .before .before .before .text-span .ensures) (ap textSpanRead (c .before .enum-told .given .1)) refl
 
 returns-2 : tie.Need-returns-2
-returns-2 c = handed partOr _ _ _ _ (c .before .before .before .before .text-span .ensures) (ap (textSpanRead _) (c .before .before .offset .given .1)) (c .part .ensures)
+returns-2 c =
+    handed (λ (a : Answer Part). partOr a (c .before .before .before .before .before .before .args .section .now)) _ _ _ _
+    (c .before .before .before .before .text-span .ensures) (ap textSpanRead (c .before .before .offset .given .1)) (c .part .ensures)
 
 pub text-part-spec : {M : Type 1} → statement M
 text-part-spec =

@@ -1,88 +1,37 @@
--- `find` meets its contract: the number, if it is there, stands from `low` on and before `high`. Assumes nothing.
-use Prim.Native.Nat.{_+_, _-_, _/_}
-use native.Mathlib.Omega.{arith}
-use Rattle.order.proofs.Between.{Bracket, bracket-start, bracket-up, bracket-down, bracket-found, bracket-absent}
+-- `find` meets its contract. Assumes nothing.
+use mathlib.Core.Path.{subst}
+use Rattle.order.specs.Find.{Stands}
+use borrow.Author.Needs.{needs}
 use Rattle.order.proofs.search.find.Statement.{statement}
 use Rattle.order.proofs.search.find.Tie as tie
 
-abbrev Inv-loop : tie.InvT-loop
-Inv-loop s f slots number low₀ high₀ low high = Bracket s f slots number low high
+find-consecutive-requires : tie.Need-find-consecutive-requires
+find-consecutive-requires c κs = search needs
 
-abbrev μ-loop : tie.MeasureT-loop
-μ-loop s f slots number low₀ high₀ low high = high - low
+enum-known-i : tie.Need-enum-known-i
+enum-known-i c = search needs
 
-loop-holds : tie.Need-loop-holds Inv-loop μ-loop
-loop-holds c = bracket-start _ _ _ _
+enum-told : tie.Need-enum-told
+enum-told c = search needs
 
-sub-middle : tie.Need-sub-middle Inv-loop μ-loop
-sub-middle c = omega arith
+find-between-requires : tie.Need-find-between-requires
+find-between-requires c κs = search needs
 
-add-middle : tie.Need-add-middle Inv-loop μ-loop
-add-middle c = omega arith
-
-mul-number-at : tie.Need-mul-number-at Inv-loop μ-loop
-mul-number-at c = omega arith
-
-shared-slice-read-number-at : tie.Need-shared-slice-read-number-at Inv-loop μ-loop
-shared-slice-read-number-at c = omega arith
-
-cast-number-at : tie.Need-cast-number-at Inv-loop μ-loop
-cast-number-at c =
-    let head = c .before .before .loop in
-    omega (arith, c .shared-slice-known3 .given (head .low + (head .high - head .low) / 2))
-
-number-at-requires : tie.Need-number-at-requires Inv-loop μ-loop
-number-at-requires c κs =
-    let start = c .before .before .before .before .before in
-    (start .pre .1 .0 _ (omega arith), start .pre .0)
-
-returns : tie.Need-returns Inv-loop μ-loop
+returns : tie.Need-returns
 returns c =
-    let found = c .before in
-    let head = found .before .before .before in
-    bracket-found _ _ _ _ (head .before .before .before .pre .1 .1) _ _ (head .loop .inv) _ _ (omega arith) (omega arith) (found .number-at .ensures) (c .if1 .taken)
+    let start = c .before .before .before .before .before .before in
+    subst (Stands (start .args .s .now) (start .args .f) (start .args .slots .now) (start .args .number)) (c .before .i .given .1) (c .before .before .before .find-consecutive .ensures)
 
-add-low : tie.Need-add-low Inv-loop μ-loop
-add-low c = omega arith
-
-loop-less : tie.Need-loop-less Inv-loop μ-loop
-loop-less c = omega arith
-
-loop-again : tie.Need-loop-again Inv-loop μ-loop
-loop-again c =
-    let found = c .before .before in
-    let head = found .before .before .before in
-    bracket-up _ _ _ _ (head .before .before .before .pre .1 .1) _ _ (head .loop .inv) _ _ (omega arith) (omega arith) (found .number-at .ensures) (c .if2 .taken)
-
-loop-less-2 : tie.Need-loop-less-2 Inv-loop μ-loop
-loop-less-2 c = omega arith
-
-loop-again-2 : tie.Need-loop-again-2 Inv-loop μ-loop
-loop-again-2 c =
-    let found = c .before .before in
-    let head = found .before .before .before in
-    bracket-down _ _ _ _ (head .before .before .before .pre .1 .1) _ _ (head .loop .inv) _ _ (omega arith) (omega arith) (found .number-at .ensures) (c .before .if1 .left) (c .if2 .left)
-
-returns-2 : tie.Need-returns-2 Inv-loop μ-loop
-returns-2 c = bracket-absent _ _ _ _ _ _ (c .before .loop .inv) (c .loop-test .left)
+returns-2 : tie.Need-returns-2
+returns-2 c = search needs
 
 pub find-spec : {M : Type 1} → statement M
 find-spec =
     tie.close
     (tie.spec
-    Inv-loop
-    μ-loop
-    loop-holds
-    sub-middle
-    add-middle
-    mul-number-at
-    shared-slice-read-number-at
-    cast-number-at
-    number-at-requires
+    find-consecutive-requires
+    enum-known-i
+    enum-told
+    find-between-requires
     returns
-    add-low
-    loop-less
-    loop-again
-    loop-less-2
-    loop-again-2
     returns-2)

@@ -66,6 +66,15 @@ cast-result c = search needs
 enum-known-fault-10 : tie.Need-enum-known-fault-10
 enum-known-fault-10 c = search needs
 
+put-body-requires-2 : tie.Need-put-body-requires-2
+put-body-requires-2 c κs = search needs
+
+cast-result-2 : tie.Need-cast-result-2
+cast-result-2 c = search needs
+
+enum-known-fault-11 : tie.Need-enum-known-fault-11
+enum-known-fault-11 c = search needs
+
 put-records-requires : tie.Need-put-records-requires
 put-records-requires c κs = search needs
 
@@ -127,7 +136,13 @@ same-length-10 : tie.Need-same-length-10
 same-length-10 c = search needs
 
 returns-10 : tie.Need-returns-10
-returns-10 c = told (faultOf _ _) _ _ _ _ _ (c .before .before .before .before .before .fault10 .given .1) (refl, c .before .before .put-records .ensures)
+returns-10 c = told (faultOf _ _) _ _ _ _ _ (c .before .before .before .before .before .fault10 .given .1) (refl, c .before .before .put-body2 .ensures)
+
+same-length-11 : tie.Need-same-length-11
+same-length-11 c = search needs
+
+returns-11 : tie.Need-returns-11
+returns-11 c = told (faultOf _ _) _ _ _ _ _ (c .before .before .before .before .before .fault11 .given .1) (refl, c .before .before .put-records .ensures)
 
 pub refused-spec : {M : Type 1} → statement M
 refused-spec =
@@ -153,6 +168,9 @@ refused-spec =
     put-body-requires
     cast-result
     enum-known-fault-10
+    put-body-requires-2
+    cast-result-2
+    enum-known-fault-11
     put-records-requires
     same-length
     returns
@@ -173,4 +191,6 @@ refused-spec =
     same-length-9
     returns-9
     same-length-10
-    returns-10)
+    returns-10
+    same-length-11
+    returns-11)

@@ -1,0 +1,45 @@
+-- `u32_at` meets its contract. Assumes nothing.
+use borrow.Author.Needs.{needs}
+use Rattle.binary.proofs.numbers.u32_at.Statement.{statement}
+use Rattle.binary.proofs.numbers.u32_at.Tie as tie
+
+shared-slice-read-a : tie.Need-shared-slice-read-a
+shared-slice-read-a c = search needs
+
+add-b : tie.Need-add-b
+add-b c = search needs
+
+shared-slice-read-b : tie.Need-shared-slice-read-b
+shared-slice-read-b c = search needs
+
+add-c : tie.Need-add-c
+add-c c = search needs
+
+shared-slice-read-c : tie.Need-shared-slice-read-c
+shared-slice-read-c c = search needs
+
+add-d : tie.Need-add-d
+add-d c = search needs
+
+shared-slice-read-d : tie.Need-shared-slice-read-d
+shared-slice-read-d c = search needs
+
+joined-requires : tie.Need-joined-requires
+joined-requires c κs = search needs
+
+returns : tie.Need-returns
+returns c = search needs
+
+pub u32-at-spec : {M : Type 1} → statement M
+u32-at-spec =
+    tie.close
+    (tie.spec
+    shared-slice-read-a
+    add-b
+    shared-slice-read-b
+    add-c
+    shared-slice-read-c
+    add-d
+    shared-slice-read-d
+    joined-requires
+    returns)

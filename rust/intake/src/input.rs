@@ -1,0 +1,71 @@
+//! Files read, `-` being standard input.
+
+use std::ffi::OsStr;
+use std::fs::File;
+use std::io::{self, Read};
+
+use limdroven::{MOST_BYTES, PmmDocumentModelSummary, Refusal, model_summary};
+
+use crate::failure::{Failure, named};
+use crate::options::{At, Section};
+use crate::project;
+
+/// What is lent to the library for one section.
+#[derive(Debug)]
+pub struct Lent {
+    pub file: String,
+    pub bytes: Vec<u8>,
+    /// The section's offset in the bytes.
+    pub start: usize,
+    /// The bytes' offset in the file.
+    pub base: usize,
+    /// The model's number in a project.
+    pub model: Option<usize>,
+}
+
+impl Lent {
+    /// A section's file, or the part of a project from the model's section on.
+    pub fn read(section: &Section) -> Result<Self, Failure> {
+        let file = named(&section.file);
+        let mut input = open(&section.file)?;
+        match section.at {
+            At::Start(start) => {
+                // One byte more than the library takes is enough for it to refuse all that are longer.
+                let bytes = read(&mut *input, MOST_BYTES + 1).map_err(failed(&file))?;
+                Ok(Self { file, bytes, start, base: 0, model: None })
+            }
+            At::Model(model) => project::section(&mut *input, file, model),
+        }
+    }
+
+    pub fn summary(&self) -> Result<PmmDocumentModelSummary, Failure> {
+        model_summary(&self.bytes, self.start).map_err(|refusal| self.refused(refusal))
+    }
+
+    /// The refusal with its place in the file.
+    pub fn refused(&self, refusal: Refusal) -> Failure {
+        let unnamed_model = self.model.is_none() && self.bytes.starts_with(project::SIGNATURE);
+        let hint = if unnamed_model { " (this looks like a project: --model N takes its model N)" } else { "" };
+        Failure::Refused { file: self.file.clone(), model: self.model, refusal: refusal.moved(self.base), hint }
+    }
+}
+
+pub fn open(path: &OsStr) -> Result<Box<dyn Read>, Failure> {
+    if path == "-" {
+        return Ok(Box::new(io::stdin()));
+    }
+    let opened = File::open(path).map_err(failed(&named(path)))?;
+    Ok(Box::new(opened))
+}
+
+/// At most so many bytes.
+pub fn read(input: &mut dyn Read, most: usize) -> io::Result<Vec<u8>> {
+    let mut bytes = Vec::new();
+    input.take(most as u64).read_to_end(&mut bytes)?;
+    Ok(bytes)
+}
+
+pub fn failed(file: &str) -> impl Fn(io::Error) -> Failure + use<> {
+    let file = file.to_owned();
+    move |error| Failure::File { file: file.clone(), error }
+}

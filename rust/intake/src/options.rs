@@ -1,0 +1,156 @@
+//! The arguments.
+
+use std::ffi::{OsStr, OsString};
+
+use crate::help;
+
+#[derive(Debug, PartialEq, Eq)]
+pub enum Asked {
+    Help(&'static str),
+    Run(Options),
+}
+
+#[derive(Debug, PartialEq, Eq)]
+pub struct Options {
+    pub command: Command,
+    pub json: bool,
+}
+
+#[derive(Debug, PartialEq, Eq)]
+pub enum Command {
+    List(Section),
+    /// The section, and where the strip goes.
+    Strip(Section, OsString),
+    Compare(OsString, OsString),
+}
+
+/// A model section in a file.
+#[derive(Debug, PartialEq, Eq)]
+pub struct Section {
+    pub file: OsString,
+    pub at: At,
+}
+
+#[derive(Debug, Clone, Copy, PartialEq, Eq)]
+pub enum At {
+    /// At this offset of the file.
+    Start(usize),
+    /// The model of this number, from 0, in a PMMv2 project.
+    Model(usize),
+}
+
+/// What stood on the command line behind the subcommand.
+#[derive(Debug, Default)]
+struct Given {
+    files: Vec<OsString>,
+    start: Option<OsString>,
+    model: Option<OsString>,
+    output: Option<OsString>,
+    json: bool,
+    help: bool,
+}
+
+/// Even where the arguments are not understood.
+pub fn wants_json(arguments: &[OsString]) -> bool {
+    arguments.iter().take_while(|argument| *argument != "--").any(|argument| argument == "--json")
+}
+
+/// What is asked, or what is wrong with the arguments.
+pub fn parse(arguments: &[OsString]) -> Result<Asked, String> {
+    let Some((subcommand, rest)) = arguments.split_first() else {
+        return Err("no subcommand".into());
+    };
+    let subcommand = subcommand.to_str().unwrap_or_default();
+    let help = match subcommand {
+        "--help" | "-h" => return Ok(Asked::Help(help::PROGRAM)),
+        "list" => help::LIST,
+        "strip" => help::STRIP,
+        "compare" => help::COMPARE,
+        _ => return Err(format!("no subcommand is called {}", arguments[0].to_string_lossy())),
+    };
+    let given = given(rest)?;
+    if given.help {
+        return Ok(Asked::Help(help));
+    }
+    let json = given.json;
+    let command = match subcommand {
+        "compare" => compare(given)?,
+        "strip" => {
+            let output = given.output.clone().ok_or("strip: -o OUT is missing")?;
+            Command::Strip(section(subcommand, given)?, output)
+        }
+        _ if given.output.is_some() => return Err("list takes no -o".into()),
+        _ => Command::List(section(subcommand, given)?),
+    };
+    Ok(Asked::Run(Options { command, json }))
+}
+
+fn given(arguments: &[OsString]) -> Result<Given, String> {
+    let mut given = Given::default();
+    let mut rest = arguments.iter();
+    while let Some(argument) = rest.next() {
+        let place = match argument.to_str() {
+            Some("--") => {
+                given.files.extend(rest.by_ref().cloned());
+                continue;
+            }
+            Some("--json") => {
+                given.json = true;
+                continue;
+            }
+            Some("--help" | "-h") => {
+                given.help = true;
+                continue;
+            }
+            Some("--start") => &mut given.start,
+            Some("--model") => &mut given.model,
+            Some("-o" | "--output") => &mut given.output,
+            Some(option) if option.starts_with('-') && option != "-" => {
+                return Err(format!("no option is called {option}"));
+            }
+            _ => {
+                given.files.push(argument.clone());
+                continue;
+            }
+        };
+        let value = rest.next().ok_or(format!("{} lacks what follows it", argument.to_string_lossy()))?;
+        if place.replace(value.clone()).is_some() {
+            return Err(format!("{} is given twice", argument.to_string_lossy()));
+        }
+    }
+    Ok(given)
+}
+
+fn section(subcommand: &str, given: Given) -> Result<Section, String> {
+    let at = match (given.start, given.model) {
+        (Some(_), Some(_)) => return Err("--start and --model exclude each other".into()),
+        (_, Some(model)) => At::Model(number("--model", &model)?),
+        (Some(start), None) => At::Start(number("--start", &start)?),
+        (None, None) => At::Start(0),
+    };
+    let [file] = <[_; 1]>::try_from(given.files).map_err(|files| amount(subcommand, "one file", files.len()))?;
+    Ok(Section { file, at })
+}
+
+fn compare(given: Given) -> Result<Command, String> {
+    if given.start.is_some() || given.model.is_some() || given.output.is_some() {
+        return Err("compare takes no --start, --model or -o".into());
+    }
+    let [first, second] =
+        <[_; 2]>::try_from(given.files).map_err(|files| amount("compare", "two strips", files.len()))?;
+    if first == "-" && second == "-" {
+        return Err("only one of the two strips can be standard input".into());
+    }
+    Ok(Command::Compare(first, second))
+}
+
+fn amount(subcommand: &str, wanted: &str, found: usize) -> String {
+    format!("{subcommand} takes {wanted}, not {found}")
+}
+
+fn number(option: &str, text: &OsStr) -> Result<usize, String> {
+    let digits = text.to_str().filter(|text| text.bytes().all(|byte| byte.is_ascii_digit()));
+    digits
+        .and_then(|text| text.parse().ok())
+        .ok_or(format!("{option} {} is no number from 0 on", text.to_string_lossy()))
+}

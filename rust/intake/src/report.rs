@@ -1,0 +1,65 @@
+//! What is told of a run, as text or as JSON.
+
+use std::io::{self, Write};
+
+use crate::failure::{FILE_STATUS, Failure};
+use crate::json::Json;
+
+/// Where a report goes: to standard error where standard output takes the strip.
+#[derive(Debug, Clone, Copy, PartialEq, Eq)]
+pub enum Stream {
+    Output,
+    Error,
+}
+
+#[derive(Debug)]
+pub struct Report {
+    /// The exit status.
+    pub status: u8,
+    /// The first key of the object.
+    pub result: &'static str,
+    /// The keys behind `result` and `status`.
+    pub keys: Vec<(&'static str, Json)>,
+    /// The lines of the report.
+    pub text: String,
+    /// A failure in words, for standard error.
+    pub error: Option<String>,
+}
+
+impl From<Failure> for Report {
+    fn from(failure: Failure) -> Self {
+        let words = failure.to_string();
+        let mut keys = failure.keys();
+        keys.push(("words", Json::text(&words)));
+        Self { status: failure.status(), result: failure.result(), keys, text: String::new(), error: Some(words) }
+    }
+}
+
+impl Report {
+    /// Tells it and gives the exit status.
+    pub fn say(self, json: bool, stream: Stream) -> u8 {
+        if json {
+            let head = [("result", Json::text(self.result)), ("status", Json::number(self.status))];
+            let object = Json::Object(head.into_iter().chain(self.keys).collect());
+            return print(stream, &format!("{object}\n"), self.status);
+        }
+        if let Some(error) = self.error {
+            print(Stream::Error, &format!("intake: {error}\n"), self.status);
+        }
+        print(stream, &self.text, self.status)
+    }
+}
+
+/// The status given, or that of a file which cannot be written.
+pub fn print(stream: Stream, text: &str, status: u8) -> u8 {
+    let written = match stream {
+        Stream::Output => io::stdout().write_all(text.as_bytes()).and_then(|()| io::stdout().flush()),
+        Stream::Error => io::stderr().write_all(text.as_bytes()),
+    };
+    if let Err(error) = written {
+        // Nothing is left to tell it to if this fails too.
+        let _ = writeln!(io::stderr(), "intake: what is printed cannot be written: {error}");
+        return FILE_STATUS;
+    }
+    status
+}

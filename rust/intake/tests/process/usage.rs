@@ -1,0 +1,89 @@
+//! Arguments, help, files and exit statuses.
+
+use crate::command::{Ran, file, intake, place};
+use crate::json;
+
+fn not_understood(arguments: &[&str], words: &str) {
+    let error = format!("intake: {words}; `intake --help` tells what is asked for\n");
+    assert_eq!(intake(arguments), Ran { status: 2, output: vec![], error }, "{arguments:?}");
+    let ran = intake(&[arguments, &["--json"]].concat());
+    let told = json::line(ran.text());
+    assert_eq!((ran.status, told.text("result"), told.number("status")), (2, "usage", 2), "{arguments:?}");
+}
+
+#[test]
+fn arguments() {
+    assert_eq!(intake::<&str>(&[]).status, 2);
+    not_understood(&["lists", "a"], "no subcommand is called lists");
+    not_understood(&["list"], "list takes one file, not 0");
+    not_understood(&["list", "a", "b"], "list takes one file, not 2");
+    not_understood(&["list", "a", "-o", "b"], "list takes no -o");
+    not_understood(&["list", "a", "--end", "1"], "no option is called --end");
+    not_understood(&["list", "a", "--start", "1", "--model", "1"], "--start and --model exclude each other");
+    not_understood(&["list", "a", "--start", "1", "--start", "1"], "--start is given twice");
+    for number in ["-1", "+1", "1.0", "0x1", "", "18446744073709551616"] {
+        not_understood(&["list", "a", "--start", number], &format!("--start {number} is no number from 0 on"));
+        not_understood(
+            &["strip", "a", "-o", "b", "--model", number],
+            &format!("--model {number} is no number from 0 on"),
+        );
+    }
+    not_understood(&["strip", "a"], "strip: -o OUT is missing");
+    not_understood(&["strip", "-o", "b"], "strip takes one file, not 0");
+    not_understood(&["compare", "a"], "compare takes two strips, not 1");
+    not_understood(&["compare", "a", "b", "c"], "compare takes two strips, not 3");
+    not_understood(&["compare", "a", "b", "--start", "1"], "compare takes no --start, --model or -o");
+    not_understood(&["compare", "-", "-"], "only one of the two strips can be standard input");
+    let last = intake(&["strip", "a", "-o"]);
+    assert_eq!((last.status, last.output.len()), (2, 0));
+    assert!(last.error.starts_with("intake: -o lacks what follows it"), "{}", last.error);
+}
+
+/// Behind `--` every argument is a file.
+#[test]
+fn after_two_dashes() {
+    let ran = intake(&["list", "--", "--json"]);
+    assert_eq!((ran.status, ran.output.len()), (4, 0));
+    assert!(ran.error.starts_with("intake: --json: "), "{}", ran.error);
+}
+
+#[test]
+fn help() {
+    let texts =
+        [&["--help"][..], &["list", "--help"], &["strip", "-h"], &["compare", "a", "--help"]].map(|arguments| {
+            let ran = intake(arguments);
+            assert_eq!((ran.status, ran.error.as_str()), (0, ""));
+            ran.text().to_owned()
+        });
+    let [program, list, strip, compare] = &texts;
+    for status in ["0  done", "1  the strips differ", "2  ", "3  ", "4  ", "5  ", "6  "] {
+        assert!(program.contains(&format!("\n  {status}")), "{status}");
+    }
+    assert!(list.starts_with("intake list FILE [--start N | --model N] [--json]"));
+    assert!(strip.starts_with("intake strip FILE -o OUT [--start N | --model N] [--json]"));
+    assert!(compare.starts_with("intake compare A B [--json]"));
+    assert!(texts.iter().flat_map(|text| text.lines()).all(|line| line.len() <= 120));
+}
+
+#[test]
+fn files() {
+    let absent = place("usage absent");
+    let cannot = |arguments: &[&str], path: &str| {
+        let ran = intake(arguments);
+        assert_eq!((ran.status, ran.output.len()), (4, 0), "{arguments:?}");
+        assert!(ran.error.starts_with(&format!("intake: {path}: ")), "{}", ran.error);
+        let told = intake(&[arguments, &["--json"]].concat());
+        let told = json::line(told.text());
+        assert_eq!((told.keys(), told.text("result")), (vec!["result", "status", "file", "words"], "file"));
+        assert_eq!(told.text("file"), path);
+    };
+    cannot(&["list", &absent], &absent);
+    cannot(&["list", &absent, "--model", "0"], &absent);
+    cannot(&["strip", &absent, "-o", &place("usage unwritten")], &absent);
+    let zeros = file("usage zeros", &[0; 340]);
+    let unwritable = format!("{absent}/strip");
+    cannot(&["strip", &zeros, "-o", &unwritable], &unwritable);
+    let strip = file("usage strip", &[0; 4]);
+    cannot(&["compare", &strip, &absent], &absent);
+    cannot(&["compare", &absent, &strip], &absent);
+}

@@ -7,7 +7,7 @@ use native.Mathlib.Omega.{arith}
 use lib.Dec.{eqb, ltb}
 use lib.IntN.{pos}
 use lib.ListN.{length, take, drop, length-take, length-drop}
-use Rattle.layout.specs.Walk.{Walk, fine, refused, refusal, after, item, times, Answer, answered, declined, answer, u8, Part, part, bytesOf, body, string, beforeZero, fixedString}
+use Rattle.layout.specs.Walk.{Walk, fine, refused, refusal, after, item, times, Answer, answered, declined, answer, u8, Part, bytesOf, string, beforeZero, fixedString}
 use Rattle.layout.proofs.Steps.{whole, if-lt, if-not-lt}
 use Rattle.layout.proofs.Inversion.{came, same-value, item-fits}
 use Rattle.binary.specs.Answers.{skipped, stringRead}

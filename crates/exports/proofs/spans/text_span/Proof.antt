@@ -1,5 +1,5 @@
 -- `text_span` meets its contract: what was found is refused, or its two numbers are written. Assumes nothing.
-use mathlib.Core.Path.{_≡_, refl}
+use mathlib.Core.Path.{refl}
 use Rattle.lists.specs.Answers.{textSpanRead}
 use Rattle.numbers.proofs.Said.{said-answer, said-refusal}
 use Rattle.exports.specs.Spans.{span}

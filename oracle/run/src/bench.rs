@@ -31,7 +31,7 @@ pub fn bench(other: &impl Other, only: &str) {
     strips(other, &HOSTILE, &GROWTH, only);
 }
 
-/// The summary alone, every record by its number, and every record with its parts, beside the Rust's summary, which has all.
+/// The summary alone (for the whole section), every record by its number, and every record with its parts, beside the Rust's summary, which has all.
 fn reading(other: &impl Other, only: &str) {
     println!("\nReading");
     println!(
@@ -62,10 +62,10 @@ fn reading(other: &impl Other, only: &str) {
             ]);
             let each = keys.all() as f64;
             println!(
-                "{:40}{n:>7}{:>10}{:>10.2}{:>10.1}{:>12.1}{:>10.1}{:>10.2}{:>10.2}{:>10.1}",
+                "{:40}{n:>7}{:>10}{:>10.0}{:>10.1}{:>12.1}{:>10.1}{:>10.2}{:>10.2}{:>10.1}",
                 shape.name,
                 section.len(),
-                summary / each,
+                summary,
                 records / each,
                 parts / each,
                 rust / each,

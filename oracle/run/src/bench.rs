@@ -5,7 +5,7 @@ use std::hint::black_box;
 use answers::{clip, model, strip};
 use calls::strip::left;
 use calls::{Arguments, Call, Other, Slices};
-use generate::shapes::{ACCEPTED, HOSTILE, Shape};
+use generate::shapes::{ACCEPTED, Count, HOSTILE, Shape};
 use mmd_anim_format::pmm::build_pmm_document_model_clip;
 
 use crate::timing::{medians, sum, sum_by_bytes};
@@ -13,30 +13,33 @@ use crate::timing::{medians, sum, sum_by_bytes};
 const SIZES: [usize; 6] = [100, 1_000, 10_000, 20_000, 30_000, 60_000];
 /// Each is followed by its double.
 const GROWTH: [usize; 4] = [10_000, 20_000, 30_000, 60_000];
+/// Document 01's limit of additional records; with one key in each track there are as many tracks as can be.
+const MOST_ADDITIONAL: usize = 65_534;
 /// As many numbers as any record's answer has, and as many bytes as its payload.
 const NUMBERS: usize = 64;
 const BYTES: usize = 64;
 
-pub fn bench(other: &impl Other) {
+/// `only` leaves out the shapes whose name does not have it.
+pub fn bench(other: &impl Other, only: &str) {
     println!(
         "Nanoseconds of processor time a key, where a key is an initial or additional record; medians of 3 to 11 rounds."
     );
-    reading(other);
+    reading(other, only);
     println!("\nSection to strip, sections that are accepted");
-    strips(other, &ACCEPTED, &SIZES);
+    strips(other, &ACCEPTED, &SIZES, only);
     println!("\nSection to strip, hostile sections");
-    strips(other, &HOSTILE, &GROWTH);
+    strips(other, &HOSTILE, &GROWTH, only);
 }
 
-/// The summary alone, every record by its number, and every record with its parts, beside the Rust's summary, which has all.
-fn reading(other: &impl Other) {
+/// The summary alone (for the whole section), every record by its number, and every record with its parts, beside the Rust's summary, which has all.
+fn reading(other: &impl Other, only: &str) {
     println!("\nReading");
     println!(
         "{:40}{:>7}{:>10}{:>10}{:>10}{:>12}{:>10}{:>10}{:>10}{:>10}",
         "shape", "n", "bytes", "summary", "records", "with parts", "Rust", "Rust/rec.", "sum", "by bytes"
     );
     let shapes = ["1 track", "300 tracks, interleaved", "3000 tracks, interleaved", "morphs: 100 tracks, interleaved"];
-    for shape in ACCEPTED.iter().filter(|shape| shapes.contains(&shape.name)) {
+    for shape in ACCEPTED.iter().filter(|shape| shapes.contains(&shape.name) && shape.name.contains(only)) {
         for n in [100, 1_000, 10_000, 60_000] {
             let section = shape.section(n);
             let keys = Keys::of(shape, &section);
@@ -59,10 +62,10 @@ fn reading(other: &impl Other) {
             ]);
             let each = keys.all() as f64;
             println!(
-                "{:40}{n:>7}{:>10}{:>10.2}{:>10.1}{:>12.1}{:>10.1}{:>10.2}{:>10.2}{:>10.1}",
+                "{:40}{n:>7}{:>10}{:>10.0}{:>10.1}{:>12.1}{:>10.1}{:>10.2}{:>10.2}{:>10.1}",
                 shape.name,
                 section.len(),
-                summary / each,
+                summary,
                 records / each,
                 parts / each,
                 rust / each,
@@ -120,15 +123,16 @@ impl Keys {
     }
 }
 
-fn strips(other: &impl Other, shapes: &[Shape], sizes: &[usize]) {
+fn strips(other: &impl Other, shapes: &[Shape], sizes: &[usize], only: &str) {
     println!(
-        "{:40}{:>7}{:>10}{:>4}{:>9}{:>8}{:>10}{:>9}{:>9}{:>9}{:>7}{:>7}{:>8}{:>9}{:>10}{:>4}",
+        "{:40}{:>7}{:>10}{:>4}{:>9}{:>8}{:>9}{:>10}{:>9}{:>9}{:>9}{:>7}{:>7}{:>8}{:>9}{:>10}{:>4}",
         "shape",
         "n",
         "bytes",
         "no.",
         "library",
         "n to 2n",
+        "exact",
         "Rust read",
         "and clip",
         "n to 2n",
@@ -140,9 +144,10 @@ fn strips(other: &impl Other, shapes: &[Shape], sizes: &[usize]) {
         "lib/bytes",
         "of"
     );
-    for shape in shapes {
+    for shape in shapes.iter().filter(|shape| shape.name.contains(only)) {
         let mut earlier: Vec<(usize, f64, f64)> = Vec::new();
-        for n in sizes {
+        let most = (shape.tracks == Count::OneEach).then_some(&MOST_ADDITIONAL);
+        for n in sizes.iter().chain(most) {
             let section = shape.section(*n);
             let row = row(other, shape, &section);
             let half = earlier.iter().find(|(size, ..)| 2 * size == *n);
@@ -150,12 +155,13 @@ fn strips(other: &impl Other, shapes: &[Shape], sizes: &[usize]) {
                 |now: f64, before: Option<f64>| before.map_or(String::new(), |before| format!("{:.2}", now / before));
             let each = row.keys as f64;
             println!(
-                "{:40}{n:>7}{:>10}{:>4}{:>9.1}{:>8}{:>10.1}{:>9.1}{:>9}{:>9.1}{:>7.2}{:>7.2}{:>8.2}{:>9.1}{:>10.2}{:>4}",
+                "{:40}{n:>7}{:>10}{:>4}{:>9.1}{:>8}{:>9.1}{:>10.1}{:>9.1}{:>9}{:>9.1}{:>7.2}{:>7.2}{:>8.2}{:>9.1}{:>10.2}{:>4}",
                 shape.name,
                 section.len(),
                 row.status,
                 row.library / each,
                 growth(row.library, half.map(|half| half.1)),
+                row.exact / each,
                 row.read / each,
                 row.clip / each,
                 growth(row.clip, half.map(|half| half.2)),
@@ -176,7 +182,9 @@ fn strips(other: &impl Other, shapes: &[Shape], sizes: &[usize]) {
 struct Row {
     status: u32,
     keys: u64,
+    /// The strip call with an output as long as the section, and with one as long as the strip.
     library: f64,
+    exact: f64,
     /// The Rust's summary; with its clip; with the clip and the oracle's own writer.
     read: f64,
     clip: f64,
@@ -187,25 +195,38 @@ struct Row {
 }
 
 fn row(other: &impl Other, shape: &Shape, section: &[u8]) -> Row {
-    let (status, mut slices) = same(other, shape, section);
+    let (status, mut slices) = same(other, shape, section, Output::AsSection);
+    let (_, mut least) = same(other, shape, section, Output::AsStrip);
     let work = |section: &[u8]| model::summary(black_box(section), 0).expect("read");
-    let ([library, read, clip, writer, sum, by_bytes], rounds) = medians([
+    let ([library, exact, read, clip, writer, sum, by_bytes], rounds) = medians([
         &mut || assert_eq!(other.strip(black_box(section), 0, &mut slices), status),
+        &mut || assert_eq!(other.strip(black_box(section), 0, &mut least), status),
         &mut || drop(black_box(work(section))),
         &mut || drop(black_box(build_pmm_document_model_clip(&work(section)))),
         &mut || drop(black_box(clip::build(&work(section)).map(|clip| strip::bytes(&clip)))),
         &mut || sum(section),
         &mut || sum_by_bytes(section),
     ]);
-    Row { status, keys: Keys::of(shape, section).all(), library, read, clip, writer, sum, by_bytes, rounds }
+    Row { status, keys: Keys::of(shape, section).all(), library, exact, read, clip, writer, sum, by_bytes, rounds }
 }
 
-/// The library answers as the Rust and document 01 ask; the number returned, and slices that are just long enough.
-fn same(other: &impl Other, shape: &Shape, section: &[u8]) -> (u32, Slices) {
+/// How long an output is lent.
+#[derive(Debug, Clone, Copy, PartialEq, Eq)]
+pub enum Output {
+    /// No strip is longer, so nothing has to be measured before it is written.
+    AsSection,
+    AsStrip,
+}
+
+/// The library answers as the Rust and document 01 ask; the number returned, and the slices, the work slices just long enough.
+fn same(other: &impl Other, shape: &Shape, section: &[u8], output: Output) -> (u32, Slices) {
     let summary = model::summary(section, 0).expect("read");
     let answer = strip::strip(&summary);
     let need = summary.bone_keyframe_summaries.len() + summary.morph_keyframe_summaries.len();
-    let length = answer.as_ref().map_or(0, |strip| strip.bytes.len());
+    let length = match output {
+        Output::AsSection => section.len(),
+        Output::AsStrip => answer.as_ref().map_or(0, |strip| strip.bytes.len()),
+    };
     let mut slices =
         Slices { first: vec![1; need], second: vec![1; need], output: vec![1; length], values: vec![1; 8] };
     let expected = left(&answer, Some(need), &slices);
@@ -215,11 +236,11 @@ fn same(other: &impl Other, shape: &Shape, section: &[u8]) -> (u32, Slices) {
 }
 
 /// One strip call on one shape, for a profiler.
-pub fn profile(other: &impl Other, name: &str, n: usize) -> Result<String, String> {
+pub fn profile(other: &impl Other, name: &str, n: usize, output: Output) -> Result<String, String> {
     let all = || ACCEPTED.iter().chain(&HOSTILE);
     let names = || all().map(|shape| format!("{:?}", shape.name)).collect::<Vec<_>>().join(", ");
     let shape = all().find(|shape| shape.name == name).ok_or_else(names)?;
     let section = shape.section(n);
-    let (status, _) = same(other, shape, &section);
-    Ok(format!("{name}, {n} additional records, {} bytes: {status}", section.len()))
+    let (status, _) = same(other, shape, &section, output);
+    Ok(format!("{name}, {n} additional records, {} bytes, output {output:?}: {status}", section.len()))
 }

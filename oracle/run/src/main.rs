@@ -1,7 +1,7 @@
 //! `oracle self [CASES] [SEED]` runs the Rust on generated cases and counts what it met.
 //! `oracle compare [CASES] [SEED]` holds the proved library against it.
 //! `oracle sample [CASES] [SEED]` does so with a sample of the calls, to take in more cases.
-//! `oracle bench` times both on the same sections; `oracle profile SHAPE N` makes one strip call on one of them.
+//! `oracle bench [NAME]` times both on the same sections; `oracle profile SHAPE N [exact]` makes one strip call on one of them.
 //! `oracle vectors CRATE` writes a sample of the Rust's answers for the program that replays them, and
 //! `oracle strip-vectors CRATE` one of strip calls.
 //! `oracle seeds FOLDER [FILES] [SEED]` writes generated sections as files for the fuzzer.
@@ -14,6 +14,7 @@ use std::process::ExitCode;
 use std::time::Instant;
 
 use generate::case;
+use run::bench::Output;
 use run::compare::Extent;
 use run::expected::{Expected, Summary, expected};
 use run::tally::Tally;
@@ -29,8 +30,12 @@ fn main() -> ExitCode {
         (Some("self"), _) => own(number(1).unwrap_or(100_000), number(2).unwrap_or(1)),
         (Some("compare"), _) => compare(number(1).unwrap_or(100_000), number(2).unwrap_or(1), Extent::Whole),
         (Some("sample"), _) => compare(number(1).unwrap_or(100_000), number(2).unwrap_or(1), Extent::Sampled(SAMPLED)),
-        (Some("bench"), _) => bench(),
-        (Some("profile"), Some(shape)) => profile(shape, number(2).unwrap_or(10_000)),
+        (Some("bench"), only) => bench(only.map_or("", String::as_str)),
+        (Some("profile"), Some(shape)) => {
+            let exact = arguments.get(3).is_some_and(|word| word == "exact");
+            let output = if exact { Output::AsStrip } else { Output::AsSection };
+            profile(shape, number(2).unwrap_or(10_000), output)
+        }
         (Some("vectors"), Some(folder)) => written(vectors::files().write(Path::new(folder))),
         (Some("strip-vectors"), Some(folder)) => written(strip_vectors::files().write(Path::new(folder))),
         (Some("seeds"), Some(folder)) => {
@@ -39,12 +44,9 @@ fn main() -> ExitCode {
         (Some("case"), _) => one(number(1).unwrap_or(1), number(2).unwrap_or(0)),
         (Some("apart"), _) => apart(number(1).unwrap_or(i32::MAX as u64)),
         _ => {
-            eprintln!(
-                "oracle self [CASES] [SEED]\noracle compare [CASES] [SEED]\noracle sample [CASES] [SEED]\noracle bench\noracle profile SHAPE N"
-            );
-            eprintln!(
-                "oracle vectors CRATE\noracle strip-vectors CRATE\noracle seeds FOLDER [FILES] [SEED]\noracle case SEED NUMBER\noracle apart COUNT"
-            );
+            eprintln!("oracle self [CASES] [SEED]\noracle compare [CASES] [SEED]\noracle sample [CASES] [SEED]");
+            eprintln!("oracle bench [NAME]\noracle profile SHAPE N [exact]\noracle seeds FOLDER [FILES] [SEED]");
+            eprintln!("oracle vectors CRATE\noracle strip-vectors CRATE\noracle case SEED NUMBER\noracle apart COUNT");
             ExitCode::FAILURE
         }
     }
@@ -81,14 +83,14 @@ fn compare(cases: u64, seed: u64, extent: Extent) -> ExitCode {
 }
 
 #[cfg(feature = "library")]
-fn bench() -> ExitCode {
-    run::bench::bench(&library::Library);
+fn bench(only: &str) -> ExitCode {
+    run::bench::bench(&library::Library, only);
     ExitCode::SUCCESS
 }
 
 #[cfg(feature = "library")]
-fn profile(shape: &str, n: u64) -> ExitCode {
-    match run::bench::profile(&library::Library, shape, n as usize) {
+fn profile(shape: &str, n: u64, output: Output) -> ExitCode {
+    match run::bench::profile(&library::Library, shape, n as usize, output) {
         Ok(told) => {
             println!("{told}");
             ExitCode::SUCCESS
@@ -106,12 +108,12 @@ fn compare(_: u64, _: u64, _: Extent) -> ExitCode {
 }
 
 #[cfg(not(feature = "library"))]
-fn bench() -> ExitCode {
+fn bench(_: &str) -> ExitCode {
     without_library()
 }
 
 #[cfg(not(feature = "library"))]
-fn profile(_: &str, _: u64) -> ExitCode {
+fn profile(_: &str, _: u64, _: Output) -> ExitCode {
     without_library()
 }
 

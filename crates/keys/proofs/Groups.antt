@@ -1,7 +1,9 @@
 -- The groups of a key's fields, made of what was read: floats one by one, and curves one by one. Assumes nothing.
-use Prim.Native.Nat.{ℕ, _+_, _*_, _≤_}
+use Prim.Native.Nat.{ℕ, _+_, _*_, _≤_, _<_, min}
 use native.Mathlib.Nat.{add-assoc, add-zero}
+use native.Mathlib.Decide.{ℕ-discrete}
 use native.Mathlib.Omega.{arith}
+use borrow.Author.Tests.{eq-eqb, ne-eqb}
 use mathlib.Core.Bool.{Bool, true, false, _&&_, cond}
 use mathlib.Core.List.{List, [], _∷_, _++_, map}
 use mathlib.Core.Path.{_≡_, refl, sym, ap, _∙_}
@@ -24,6 +26,10 @@ all3 true false c = refl
 all3 true true false = refl
 all3 true true true = refl
 
+and-true : (b : Bool) → b && true ≡ b
+and-true true = refl
+and-true false = refl
+
 all4 : (a b c d : Bool) → a && b && c && d ≡ a && (b && (c && (d && true)))
 all4 false b c d = refl
 all4 true b c d = all3 b c d
@@ -37,10 +43,34 @@ four (a ∷ b ∷ c ∷ []) l = absurd (omega arith)
 four (a ∷ b ∷ c ∷ d ∷ []) l = refl
 four (a ∷ b ∷ c ∷ d ∷ e ∷ xs) l = absurd (omega arith)
 
--- The bytes of a curve one by one.
-pub plain-curve-is : (xs : List ℕ) → length xs ≡ 4 → eqb (getD xs 0 0) 20 && eqb (getD xs 1 0) 20 && eqb (getD xs 2 0) 107 && eqb (getD xs 3 0) 107 ≡ plainBytes plainCurve xs
+-- A byte below 127 is compared clamped or not.
+clamped-equal : (b n : ℕ) → n < 127 → eqb b n ≡ eqb (min b 127) n
+clamped-equal b n low = go (ℕ-discrete b n)
+  where
+    go : Dec (b ≡ n) → eqb b n ≡ eqb (min b 127) n
+    go (yes e) = eq-eqb b n e ∙ sym (eq-eqb (min b 127) n (omega arith))
+    go (no d) = ne-eqb b n d ∙ sym (ne-eqb (min b 127) n (λ e. d (omega arith)))
+
+-- Numbers are equal if their lowest bytes are, and what is above them.
+lowest-equal : (a b m n : ℕ) → a < 256 → b < 256 → eqb (a + 256 * m) (b + 256 * n) ≡ eqb a b && eqb m n
+lowest-equal a b m n la lb = go (ℕ-discrete a b) (ℕ-discrete m n)
+  where
+    go : Dec (a ≡ b) → Dec (m ≡ n) → eqb (a + 256 * m) (b + 256 * n) ≡ eqb a b && eqb m n
+    go (yes e) (yes f) = eq-eqb (a + 256 * m) (b + 256 * n) (omega arith) ∙ sym (rw (eq-eqb a b e) (eq-eqb m n f))
+    go (yes e) (no d) = ne-eqb (a + 256 * m) (b + 256 * n) (λ s. d (omega arith)) ∙ sym (rw (eq-eqb a b e) (ne-eqb m n d))
+    go (no d) f = ne-eqb (a + 256 * m) (b + 256 * n) (λ s. d (omega arith)) ∙ sym (rw (ne-eqb a b d))
+
+-- A curve as one number: 20 + 256 * (20 + 256 * (107 + 256 * 107)).
+pub plain-word : (a b c d : ℕ) → a < 256 → b < 256 → c < 256 → d < 256 → eqb (a + 256 * b + 65536 * c + 16777216 * d) 1802179604 ≡ plainBytes plainCurve (clamped (a ∷ b ∷ c ∷ d ∷ []))
 unfolding plainBytes
-plain-curve-is xs l = all4 (eqb (getD xs 0 0) 20) (eqb (getD xs 1 0) 20) (eqb (getD xs 2 0) 107) (eqb (getD xs 3 0) 107) ∙ ap (plainBytes plainCurve) (four xs l)
+plain-word a b c d la lb lc ld =
+    let nested : a + 256 * b + 65536 * c + 16777216 * d ≡ a + 256 * (b + 256 * (c + 256 * d)) = omega arith in
+    ap (λ (n : ℕ). eqb n 1802179604) nested
+    ∙ lowest-equal a 20 (b + 256 * (c + 256 * d)) 7039764 la (omega arith)
+    ∙ ap (λ (t : Bool). eqb a 20 && t)
+    (lowest-equal b 20 (c + 256 * d) 27499 lb (omega arith)
+    ∙ ap (λ (t : Bool). eqb b 20 && t) (lowest-equal c 107 d 107 lc (omega arith)))
+    ∙ rw (clamped-equal a 20 (omega arith), clamped-equal b 20 (omega arith), clamped-equal c 107 (omega arith), clamped-equal d 107 (omega arith)) (ap (λ (t : Bool). eqb (min a 127) 20 && (eqb (min b 127) 20 && (eqb (min c 127) 107 && t))) (sym (and-true (eqb (min d 127) 107))))
 
 and-assoc : (a b c : Bool) → a && b && c ≡ a && (b && c)
 and-assoc true b c = refl
@@ -95,13 +125,13 @@ module _ (s : List ℕ) (at : ℕ) where
   rotation-is = ap (plainBytes plainCurve) (sym fourth-curve)
 
   -- What was read and compared, t, o, c and r the answers.
-  module _ (p : Pose) (cs : List (List ℕ)) (t o c r : Bool) where
-    pub bone-plain-is : p ≡ pose → cs ≡ map clamped (curvesAt s at) → t ≡ eq (p .«translation_x») (float 0) && eq (p .«translation_y») (float 0) && eq (p .«translation_z») (float 0) → o ≡ eq (p .«orientation_x») (float 0) && eq (p .«orientation_y») (float 0) && eq (p .«orientation_z») (float 0) && eq (p .«orientation_w») (float one) → c ≡ plainBytes plainCurve (getD cs 0 []) && plainBytes plainCurve (getD cs 1 []) && plainBytes plainCurve (getD cs 2 []) → r ≡ plainBytes plainCurve (getD cs 3 []) → record { translation = t; orientation = o; curves = c; rotation = r } ≡ bonePlain body
-    bone-plain-is pe ce te oe me re =
+  module _ (p : Pose) (t o c r : Bool) where
+    pub bone-plain-is : p ≡ pose → t ≡ eq (p .«translation_x») (float 0) && eq (p .«translation_y») (float 0) && eq (p .«translation_z») (float 0) → o ≡ eq (p .«orientation_x») (float 0) && eq (p .«orientation_y») (float 0) && eq (p .«orientation_z») (float 0) && eq (p .«orientation_w») (float one) → c ≡ plainAt at && plainAt (at + 4) && plainAt (at + 8) → r ≡ plainAt (at + 12) → record { translation = t; orientation = o; curves = c; rotation = r } ≡ bonePlain body
+    bone-plain-is pe te oe ce re =
         let ft : t ≡ plainIn boneGroups (boneFields body) 0 = te ∙ rw pe translation-is in
         let fo : o ≡ plainIn boneGroups (boneFields body) 1 = oe ∙ rw pe orientation-is in
-        let fc : c ≡ plainIn boneGroups (boneFields body) 2 = me ∙ rw ce curves-is in
-        let fr : r ≡ plainIn boneGroups (boneFields body) 3 = re ∙ rw ce rotation-is in
+        let fc : c ≡ plainIn boneGroups (boneFields body) 2 = ce ∙ curves-is in
+        let fr : r ≡ plainIn boneGroups (boneFields body) 3 = re ∙ rotation-is in
         rw (ft, fo, fc, fr)
 
 scaled : (b : Bool) (k : ℕ) → cond b 0 k ≡ k * cond b 0 1

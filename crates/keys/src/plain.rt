@@ -5,14 +5,15 @@ ghost use mathlib.Core.Bool.{_&&_, cond};
 ghost use mathlib.Core.List.{[]};
 ghost use Prim.Native.Nat.{_+_, _≤_, _<_};
 ghost use lib.Ieee.{eq};
-ghost use lib.ListN.{length, getD};
+ghost use lib.ListN.{length};
+ghost use Rattle.records.specs.Curves.{curveAt};
 ghost use Rattle.records.specs.Pose.{float};
 ghost use Rattle.clip.specs.Section.{boneBody, morphBody};
-ghost use Rattle.strip.specs.Plain.{one, plainCurve, plainBytes, boneGroups, boneFields, morphGroups, morphFields};
+ghost use Rattle.strip.specs.Plain.{one, plainCurve, plainBytes, clamped, boneGroups, boneFields, morphGroups, morphFields};
 ghost use Rattle.strip.specs.Keys.{mapByte};
 ghost use Rattle.keys.specs.Plain.{plainIn, bonePlain, standing};
-use crate::curves;
 use crate::pose;
+use binary::numbers;
 use records::pose::Pose;
 
 // A group for each bit, in the order of the bits.
@@ -42,20 +43,20 @@ fn plain_orientation(pose: Pose) -> bool
     zeros(pose.orientation_x, pose.orientation_y, pose.orientation_z) & (w == 1.0)
 }
 
-fn plain_curve(curve: [u8; 4]) -> bool
-    ensures { λ r. ⌜ r ≡ plainBytes plainCurve curve ⌝ }
+// The bytes 20, 20, 107, 107 as one number. They are below 127, so the curve need not be clamped to be compared.
+fn plain_curve(s: &[u8], at: usize) -> bool
+    requires { ⌜ at + 4 ≤ length (now s) ⌝ }
+    ensures { λ r. ⌜ r ≡ plainBytes plainCurve (clamped (curveAt (now (s .entry)) at)) ⌝ }
 {
-    (curve[0] == 20) & (curve[1] == 20) & (curve[2] == 107) & (curve[3] == 107)
+    numbers::u32_at(s, at) == 1802179604
 }
 
 // The x, y and z curves.
-fn plain_curves(curves: [[u8; 4]; 4]) -> bool
-    ensures { λ r. ⌜ r ≡ plainBytes plainCurve (getD curves 0 []) && plainBytes plainCurve (getD curves 1 []) && plainBytes plainCurve (getD curves 2 []) ⌝ }
+fn plain_curves(s: &[u8], at: usize) -> bool
+    requires { ⌜ at + 12 ≤ length (now s) ⌝ }
+    ensures { λ r. ⌜ r ≡ plainBytes plainCurve (clamped (curveAt (now (s .entry)) at)) && plainBytes plainCurve (clamped (curveAt (now (s .entry)) (at + 4))) && plainBytes plainCurve (clamped (curveAt (now (s .entry)) (at + 8))) ⌝ }
 {
-    let x = curves[0];
-    let y = curves[1];
-    let z = curves[2];
-    plain_curve(x) & plain_curve(y) & plain_curve(z)
+    plain_curve(s, at) & plain_curve(s, at + 4) & plain_curve(s, at + 8)
 }
 
 pub fn bone_plain(s: &[u8], at: usize) -> BonePlain
@@ -63,12 +64,10 @@ pub fn bone_plain(s: &[u8], at: usize) -> BonePlain
     ensures { λ r. ⌜ r ≡ bonePlain (boneBody (now (s .entry)) at) ⌝ }
 {
     let pose = pose::pose_at(s, at);
-    let clamped = curves::bone_curves(s, at);
-    let fourth = clamped[3];
     let translation = plain_translation(pose);
     let orientation = plain_orientation(pose);
-    let curves = plain_curves(clamped);
-    let rotation = plain_curve(fourth);
+    let curves = plain_curves(s, at);
+    let rotation = plain_curve(s, at + 12);
     BonePlain {
         translation,
         orientation,

@@ -7,12 +7,6 @@ use Rattle.keys.proofs.plain.bone_plain.Tie as tie
 pose-at-requires : tie.Need-pose-at-requires
 pose-at-requires c κs = search needs
 
-bone-curves-requires : tie.Need-bone-curves-requires
-bone-curves-requires c κs = search needs
-
-array-copy-out-fourth : tie.Need-array-copy-out-fourth
-array-copy-out-fourth c = search needs
-
 plain-translation-requires : tie.Need-plain-translation-requires
 plain-translation-requires c κs = search needs
 
@@ -22,14 +16,16 @@ plain-orientation-requires c κs = search needs
 plain-curves-requires : tie.Need-plain-curves-requires
 plain-curves-requires c κs = search needs
 
+add-plain-curve : tie.Need-add-plain-curve
+add-plain-curve c = search needs
+
 plain-curve-requires : tie.Need-plain-curve-requires
 plain-curve-requires c κs = search needs
 
 returns : tie.Need-returns
 returns c =
-    bone-plain-is _ _ _ _ _ _ _ _
-    (c .before .before .before .before .before .before .pose-at .ensures)
-    (c .before .before .before .before .before .bone-curves .ensures)
+    bone-plain-is _ _ _ _ _ _ _
+    (c .before .before .before .before .pose-at .ensures)
     (c .before .before .before .plain-translation .ensures)
     (c .before .before .plain-orientation .ensures)
     (c .before .plain-curves .ensures)
@@ -40,10 +36,9 @@ bone-plain-spec =
     tie.close
     (tie.spec
     pose-at-requires
-    bone-curves-requires
-    array-copy-out-fourth
     plain-translation-requires
     plain-orientation-requires
     plain-curves-requires
+    add-plain-curve
     plain-curve-requires
     returns)

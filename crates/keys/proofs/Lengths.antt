@@ -1,5 +1,6 @@
 -- How long a key is, and the parts that it is written in. Assumes nothing.
 use Prim.Native.Nat.{ℕ, _+_, _≤_}
+use native.Mathlib.Nat.{add-assoc}
 use native.Mathlib.Omega.{arith}
 use mathlib.Core.Bool.{Bool, true, false, cond}
 use mathlib.Core.List.{List, [], _∷_, _++_, map, append-assoc, append-nil}
@@ -79,10 +80,10 @@ module _ (s : List ℕ) (at frame : ℕ) where
     bone-parts pe ce be =
         let byte-is : byte ≡ mapByte boneGroups (boneFields (boneBody s at)) = be ∙ rw pe (bone-map-is s at) in
         let a = cond (p .translation) [] (bytesAt s (at + 16) 12) in
-        let b = cond (p .orientation) [] (bytesAt s (at + 28) 16) in
+        let b = cond (p .orientation) [] (bytesAt s (at + 16 + 12) 16) in
         let c = cond (p .curves) [] (threeCurves cs) in
         let d = cond (p .rotation) [] (getD cs 3 []) in
-        regroup (littleEndian 4 frame) byte a b c d ∙ rw (byte-is, pe, ce, first-curves s at, fourth-curve s at)
+        regroup (littleEndian 4 frame) byte a b c d ∙ rw (byte-is, pe, ce, first-curves s at, fourth-curve s at, add-assoc at 16 12)
 
   module _ (plain : Bool) (byte : ℕ) where
     pub morph-parts : plain ≡ plainIn morphGroups (morphFields (morphBody s at)) 0 → byte ≡ cond plain 0 1 → headBytes frame byte ++ cond plain [] (bytesAt s at 4) ≡ morphKeyBytes s at frame

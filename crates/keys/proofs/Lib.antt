@@ -1,4 +1,5 @@
 pub mod Bodies
+pub mod Clamping
 pub mod Asking
 pub mod Groups
 pub mod Placing

@@ -1,6 +1,6 @@
 -- Bytes that are written into an output, and what the rest of it is then. Definitions only.
-use Prim.Native.Nat.{ℕ, _+_, _≤_}
-use mathlib.Core.Bool.{cond}
+use Prim.Native.Nat.{ℕ, _+_, _*_, _≤_}
+use mathlib.Core.Bool.{Bool, cond}
 use mathlib.Core.List.{List, [], _∷_, _++_}
 use mathlib.Core.Path.{_≡_}
 use lib.ListN.{length, take, drop, getD}
@@ -28,12 +28,16 @@ boneKeyBytes s at frame = keyBytes boneGroups boneFields (record { frame = frame
 abbrev pub morphKeyBytes : List ℕ → ℕ → ℕ → List ℕ
 morphKeyBytes s at frame = keyBytes morphGroups morphFields (record { frame = frame; body = morphBody s at })
 
--- The parts of a key as they are written: frame and map byte, the floats of a pose, the curves.
+-- The parts of a key as they are written: frame and map byte; 12 bytes and those behind them, each group unless it is plain; so the pose;
+-- the curves.
 abbrev pub headBytes : ℕ → ℕ → List ℕ
 headBytes frame map = littleEndian 4 frame ++ map ∷ []
 
+abbrev pub groupBytes : Bool → Bool → List ℕ → ℕ → ℕ → List ℕ
+groupBytes first second s from more = cond first [] (bytesAt s from 12) ++ cond second [] (bytesAt s (from + 12) (4 * more))
+
 abbrev pub poseBytes : BonePlain → List ℕ → ℕ → List ℕ
-poseBytes p s at = cond (p .translation) [] (bytesAt s (at + 16) 12) ++ cond (p .orientation) [] (bytesAt s (at + 28) 16)
+poseBytes p s at = groupBytes (p .translation) (p .orientation) s (at + 16) 4
 
 abbrev pub threeCurves : List (List ℕ) → List ℕ
 threeCurves curves = getD curves 0 [] ++ getD curves 1 [] ++ getD curves 2 []

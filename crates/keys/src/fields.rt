@@ -4,8 +4,9 @@ ghost use mathlib.Core.Bool.{cond};
 ghost use mathlib.Core.List.{[]};
 ghost use Prim.Native.Nat.{_+_, _*_, _≤_};
 ghost use lib.ListN.{length};
+ghost use Rattle.records.specs.Curves.{curvesAt};
 ghost use Rattle.clip.specs.Section.{bytesAt};
-ghost use Rattle.keys.specs.Placed.{placed, Room, Wrote, poseBytes, threeCurves, curveBytes};
+ghost use Rattle.keys.specs.Placed.{placed, Room, Wrote, groupBytes, poseBytes, threeCurves, curveBytes};
 use crate::plain::BonePlain;
 
 // Four bytes of the section.
@@ -54,12 +55,44 @@ pub fn copy_unless(
     place + 4 * floats
 }
 
+// Three floats' bytes and those behind them, each group unless it is plain.
+fn copy_groups(
+    first: bool,
+    second: bool,
+    s: &[u8],
+    from: usize,
+    more: usize,
+    output: &mut [u8],
+    place: usize,
+) -> usize
+    requires { ⌜ (from + 12 + 4 * more ≤ length (now s)) × Room place (groupBytes first second (now s) from more) (now output) ⌝ }
+    ensures { λ r. ⌜ Wrote place (groupBytes first second (now (s .entry)) from more) (now (output .entry)) r (now (output .exit)) ⌝ }
+{
+    let next = copy_unless(first, s, from, 3, output, place);
+    copy_unless(second, s, from + 12, more, output, next)
+}
+
 pub fn write_pose(plain: BonePlain, s: &[u8], at: usize, output: &mut [u8], place: usize) -> usize
     requires { ⌜ (at + 44 ≤ length (now s)) × Room place (poseBytes plain (now s) at) (now output) ⌝ }
     ensures { λ r. ⌜ Wrote place (poseBytes plain (now (s .entry)) at) (now (output .entry)) r (now (output .exit)) ⌝ }
 {
-    let next = copy_unless(plain.translation, s, at + 16, 3, output, place);
-    copy_unless(plain.orientation, s, at + 28, 4, output, next)
+    copy_groups(
+        plain.translation,
+        plain.orientation,
+        s,
+        at + 16,
+        4,
+        output,
+        place,
+    )
+}
+
+// The curves as they stand.
+pub fn copy_curves(plain: BonePlain, s: &[u8], at: usize, output: &mut [u8], place: usize) -> usize
+    requires { ⌜ (at + 44 ≤ length (now s)) × Room place (curveBytes plain (curvesAt (now s) at)) (now output) ⌝ }
+    ensures { λ r. ⌜ Wrote place (curveBytes plain (curvesAt (now (s .entry)) at)) (now (output .entry)) r (now (output .exit)) ⌝ }
+{
+    copy_groups(plain.curves, plain.rotation, s, at, 1, output, place)
 }
 
 fn write_curve(curve: [u8; 4], output: &mut [u8], place: usize) -> usize

@@ -3,11 +3,15 @@
 ghost use mathlib.Core.Path.{_≡_};
 ghost use Prim.Native.Nat.{_+_, _%_, _≤_};
 ghost use lib.ListN.{length};
+ghost use mathlib.Core.List.{map};
+ghost use Rattle.records.specs.Curves.{curvesAt};
+ghost use Rattle.strip.specs.Plain.{clamped};
 ghost use Rattle.strip.specs.Keys.{littleEndian};
-ghost use Rattle.keys.specs.Placed.{placed, Room, Wrote, headBytes, boneKeyBytes, morphKeyBytes};
+ghost use Rattle.keys.specs.Placed.{placed, Room, Wrote, headBytes, curveBytes, boneKeyBytes, morphKeyBytes};
 use crate::curves;
 use crate::fields;
 use crate::plain;
+use crate::plain::BonePlain;
 
 // The lowest byte of a number.
 fn low(n: usize) -> u8
@@ -62,16 +66,26 @@ pub fn morph_key_length(s: &[u8], at: usize) -> usize
     5 + fields as usize
 }
 
+// Curves are copied as they stand where nothing is to be clamped.
+fn write_curves(plain: BonePlain, s: &[u8], at: usize, output: &mut [u8], place: usize) -> usize
+    requires { ⌜ (at + 44 ≤ length (now s)) × Room place (curveBytes plain (map clamped (curvesAt (now s) at))) (now output) ⌝ }
+    ensures { λ r. ⌜ Wrote place (curveBytes plain (map clamped (curvesAt (now (s .entry)) at))) (now (output .entry)) r (now (output .exit)) ⌝ }
+{
+    if curves::curves_in_range(s, at) {
+        return fields::copy_curves(plain, s, at, output, place);
+    }
+    fields::write_curves(plain, curves::bone_curves(s, at), output, place)
+}
+
 pub fn write_bone_key(s: &[u8], at: usize, frame: u32, output: &mut [u8], place: usize) -> usize
     requires { ⌜ (at + 44 ≤ length (now s)) × Room place (boneKeyBytes (now s) at frame) (now output) ⌝ }
     ensures { λ r. ⌜ Wrote place (boneKeyBytes (now (s .entry)) at frame) (now (output .entry)) r (now (output .exit)) ⌝ }
 {
     let plain = plain::bone_plain(s, at);
-    let curves = curves::bone_curves(s, at);
     let map = plain::standing(plain, 1, 2, 4, 8);
     let pose = write_head(output, place, frame, map);
     let next = fields::write_pose(plain, s, at, output, pose);
-    fields::write_curves(plain, curves, output, next)
+    write_curves(plain, s, at, output, next)
 }
 
 pub fn write_morph_key(s: &[u8], at: usize, frame: u32, output: &mut [u8], place: usize) -> usize

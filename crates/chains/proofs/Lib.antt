@@ -7,5 +7,6 @@ pub mod ListedChain
 pub mod ChainFrames
 pub mod Meets
 pub mod Scanned
+pub mod RisingIndices
 pub mod Readied
 pub mod Asking

@@ -1,0 +1,116 @@
+-- `scan_any` meets its contract. Assumes nothing.
+use Rattle.chains.proofs.Scanned.{scan-repeated, scan-negative, scan-low, scan-passes, scan-orders}
+use Rattle.chains.proofs.ByIndex.{index-field}
+use Rattle.order.proofs.Counted.{upTo-length}
+use Rattle.order.specs.Sorted.{Sorted}
+use Rattle.order.specs.Repeat.{FirstRepeat, upTo}
+use Rattle.order.specs.Field.{numberOf}
+use lib.ListN.{length}
+use mathlib.Core.Path.{sym, _∙_, subst}
+use Prim.Native.Nat.{ℕ}
+use native.Mathlib.Omega.{arith}
+use Rattle.chains.proofs.scan.scan_any.Statement.{statement}
+use Rattle.chains.proofs.scan.scan_any.Tie as tie
+
+in-range-requires : tie.Need-in-range-requires
+in-range-requires c κs = c .before .before .pre .0
+
+first-repeat-requires : tie.Need-first-repeat-requires
+first-repeat-requires c κs =
+    let start = c .before .before .before .before in
+    let room = start .pre .1 in
+    (index-field (start .args .s .now) (start .args .b) (start .pre .0), omega (arith, room))
+
+index-at-requires : tie.Need-index-at-requires
+index-at-requires c κs =
+    let less = c .if1 .taken in
+    let most = c .before .before .before .before .before .in-range .ensures .most in
+    (c .before .before .before .before .before .before .before .before .pre .0, omega (arith, less, most))
+
+same-length : tie.Need-same-length
+same-length c =
+    let start = c .before .before .before .before .before .before .before .before .before in
+    let call = c .before .before .before .before .first-repeat in
+    call .ensures .1 .length ∙ upTo-length (length (start .args .slots .now))
+
+returns : tie.Need-returns
+returns c =
+    let start = c .before .before .before .before .before .before .before .before .before in
+    let s = start .args .s .now in
+    let b = start .args .b in
+    let call = c .before .before .before .before .first-repeat in
+    let repeat = subst (λ (n : ℕ). FirstRepeat (numberOf s (b .records)) n (call .result)) (start .pre .1) (call .ensures .0) in
+    let sorted = subst (λ (n : ℕ). Sorted s (b .records) (upTo n) (call .last .1 .1 .0)) (start .pre .1) (call .ensures .1) in
+    let passed = c .before .before .before .before .before .before .in-range in
+    (scan-repeated s b (passed .result) (passed .ensures) (call .result) repeat (c .before .if1 .taken) (c .index-at .result) (c .index-at .ensures), (scan-orders s b (start .pre .0) (call .last .1 .1 .0) sorted, sorted .length ∙ upTo-length (b .records .count) ∙ sym (start .pre .1)))
+
+index-at-requires-2 : tie.Need-index-at-requires-2
+index-at-requires-2 c κs = (c .before .before .before .before .before .before .before .before .before .before .pre .0, c .if2 .taken)
+
+same-length-2 : tie.Need-same-length-2
+same-length-2 c =
+    let start = c .before .before .before .before .before .before .before .before .before .before .before .before in
+    let call = c .before .before .before .before .before .before .before .first-repeat in
+    call .ensures .1 .length ∙ upTo-length (length (start .args .slots .now))
+
+returns-2 : tie.Need-returns-2
+returns-2 c =
+    let start = c .before .before .before .before .before .before .before .before .before .before .before .before in
+    let s = start .args .s .now in
+    let b = start .args .b in
+    let call = c .before .before .before .before .before .before .before .first-repeat in
+    let repeat = subst (λ (n : ℕ). FirstRepeat (numberOf s (b .records)) n (call .result)) (start .pre .1) (call .ensures .0) in
+    let sorted = subst (λ (n : ℕ). Sorted s (b .records) (upTo n) (call .last .1 .1 .0)) (start .pre .1) (call .ensures .1) in
+    let passed = c .before .before .before .before .before .before .before .before .before .in-range in
+    (scan-negative s b (passed .result) (passed .ensures) (call .result) repeat (c .before .before .before .before .if1 .left) (c .before .before .if2 .taken) (c .before .index-at2 .result) (c .before .index-at2 .ensures) (c .if3 .taken), (scan-orders s b (start .pre .0) (call .last .1 .1 .0) sorted, sorted .length ∙ upTo-length (b .records .count) ∙ sym (start .pre .1)))
+
+same-length-3 : tie.Need-same-length-3
+same-length-3 c =
+    let start = c .before .before .before .before .before .before .before .before .before .before .before .before in
+    let call = c .before .before .before .before .before .before .before .first-repeat in
+    call .ensures .1 .length ∙ upTo-length (length (start .args .slots .now))
+
+returns-3 : tie.Need-returns-3
+returns-3 c =
+    let start = c .before .before .before .before .before .before .before .before .before .before .before .before in
+    let s = start .args .s .now in
+    let b = start .args .b in
+    let call = c .before .before .before .before .before .before .before .first-repeat in
+    let repeat = subst (λ (n : ℕ). FirstRepeat (numberOf s (b .records)) n (call .result)) (start .pre .1) (call .ensures .0) in
+    let sorted = subst (λ (n : ℕ). Sorted s (b .records) (upTo n) (call .last .1 .1 .0)) (start .pre .1) (call .ensures .1) in
+    let passed = c .before .before .before .before .before .before .before .before .before .in-range in
+    (scan-low s b (passed .result) (passed .ensures) (call .result) repeat (c .before .before .before .before .if1 .left) (c .before .before .if2 .taken) (c .before .index-at2 .result) (c .before .index-at2 .ensures) (c .if3 .left), (scan-orders s b (start .pre .0) (call .last .1 .1 .0) sorted, sorted .length ∙ upTo-length (b .records .count) ∙ sym (start .pre .1)))
+
+same-length-4 : tie.Need-same-length-4
+same-length-4 c =
+    let start = c .before .before .before .before .before .before .before .before .before .before in
+    let call = c .before .before .before .before .before .first-repeat in
+    call .ensures .1 .length ∙ upTo-length (length (start .args .slots .now))
+
+returns-4 : tie.Need-returns-4
+returns-4 c =
+    let start = c .before .before .before .before .before .before .before .before .before .before in
+    let s = start .args .s .now in
+    let b = start .args .b in
+    let call = c .before .before .before .before .before .first-repeat in
+    let repeat = subst (λ (n : ℕ). FirstRepeat (numberOf s (b .records)) n (call .result)) (start .pre .1) (call .ensures .0) in
+    let sorted = subst (λ (n : ℕ). Sorted s (b .records) (upTo n) (call .last .1 .1 .0)) (start .pre .1) (call .ensures .1) in
+    let passed = c .before .before .before .before .before .before .before .in-range in
+    (scan-passes s b (passed .result) (passed .ensures) (call .result) repeat (c .before .before .if1 .left) (c .if2 .left), (scan-orders s b (start .pre .0) (call .last .1 .1 .0) sorted, sorted .length ∙ upTo-length (b .records .count) ∙ sym (start .pre .1)))
+
+pub scan-any-spec : {M : Type 1} → statement M
+scan-any-spec =
+    tie.close
+    (tie.spec
+    in-range-requires
+    first-repeat-requires
+    index-at-requires
+    same-length
+    returns
+    index-at-requires-2
+    same-length-2
+    returns-2
+    same-length-3
+    returns-3
+    same-length-4
+    returns-4)

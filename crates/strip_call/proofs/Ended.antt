@@ -1,14 +1,14 @@
 -- How a run of the strip call ends, by what its parts gave. Assumes nothing.
 use Prim.Native.Nat.{ℕ, _+_, _≤_, _<_}
 use native.Mathlib.Omega.{arith}
-use mathlib.Core.List.{List, [], _∷_, _++_}
+use mathlib.Core.List.{List, _++_}
 use mathlib.Core.Option.{none, some}
 use mathlib.Core.Path.{_≡_, sym, ap, _∙_, subst}
 use borrow.Author.Tests.{lt-ltb, le-ltb}
 use lib.ListN.{length, take, drop, replicate, length-replicate, take-append-drop}
 use lib.Seq.{take-add, length-take-le}
 use Rattle.layout.specs.Walk.{Answer, answered}
-use Rattle.keys.specs.Placed.{Room, Wrote}
+use Rattle.keys.specs.Placed.{Wrote}
 use Rattle.keys.proofs.Placing.{placed-first}
 use Rattle.strip.specs.Call.{Built, Outcome, over, zeroed}
 use Rattle.chains.specs.Block.{kindOf}

@@ -1,16 +1,13 @@
 -- The tracks, one by one: their marks and the links followed. Assumes nothing.
-use Prim.Native.Nat.{ℕ, _+_, _*_, _≤_, _<_}
+use Prim.Native.Nat.{ℕ, _+_, _*_, _≤_}
 use native.Mathlib.Numerals.{add-one}
 use native.Mathlib.Omega.{arith}
 use mathlib.Core.List.{List}
 use mathlib.Core.Path.{_≡_, refl, ap, _∙_, subst}
 use lib.ListN.{length, replicate}
-use Rattle.layout.specs.Walk.{answered}
 use Rattle.clip.specs.Fields.{Records, Kind}
 use Rattle.clip.specs.First.{total}
-use Rattle.clip.specs.Chain.{chain}
 use Rattle.clip.specs.Build.{chainOf, linksFollowed}
-use Rattle.clip.proofs.Indexed.{Indexed}
 use Rattle.strip.specs.Work.{each, trackMark}
 use Rattle.marks.specs.Marks.{marked}
 use Rattle.marks.proofs.Each.{length-each}

@@ -52,12 +52,19 @@ module _ (s : List ℕ) (b : Block) (track : ℕ) (list : List ℕ) (r : Ready) 
   pub refused : (fault : Fault) → r ≡ Ready.Refused fault → meets s b track ≡ some (faultOf (kindOf (b .kind)) (b .initials .count) fault)
   refused fault seen = subst (λ (k : Ready). Readies s b track list k) seen readies
 
-module _ (s : List ℕ) (b : Block) (slots : List ℕ) (ordered : Ordered s b slots) (track : ℕ) (is-track : track < b .initials .count) (list : List ℕ) (room : b .records .count ≤ length list) (n again : ℕ) (k : Keyed s b track list n again) where
-  listed-many : length (take n list) ≡ n
-  listed-many = let many = k .many in length-take-le n list (omega (arith, many, room))
+-- A track whose records stand at the front of the list.
+pub record Ready-track (s : List ℕ) (b : Block) (slots : List ℕ) (track : ℕ) (list : List ℕ) (n again : ℕ) : Type 0 where
+  pub ordered : Ordered s b slots
+  pub is-track : track < b .initials .count
+  pub room : b .records .count ≤ length list
+  pub keys : Keyed s b track list n again
 
-  pub asking : (met : Met) → met ≡ Met.Nothing → Asking s b track list n again 0 met
-  asking met nothing = record { most = omega arith; before = some-again again (k .repeat); so-far = k .so-far; nothing = nothing }
+module _ {s : List ℕ} {b : Block} {slots : List ℕ} {track : ℕ} {list : List ℕ} {n again : ℕ} (k : Ready-track s b slots track list n again) where
+  listed-many : length (take n list) ≡ n
+  listed-many = let many = k .keys .many in let room = k .room in length-take-le n list (omega arith)
+
+  pub asking : {met : Met} → met ≡ Met.Nothing → Asking s b track list n again 0 met
+  asking nothing = record { most = omega arith; before = some-again again (k .keys .repeat); so-far = k .keys .so-far; nothing = nothing }
     where
       some-again : (again : ℕ) → FirstRepeat (framesOf (links s b) track (take n list)) (n + 1) again → 0 < again
       some-again zero repeat = absurd (let a = repeat .again (omega arith) .1 in omega (arith, a))
@@ -70,16 +77,16 @@ module _ (s : List ℕ) (b : Block) (slots : List ℕ) (ordered : Ordered s b sl
 
   pub position-below : (i : ℕ) → i < n → getD list i 0 < b .records .count
   position-below i lt =
-      let all = all-below (links s b) (take n list) track (links s b .initial track .next) (is-chain (kindOf (b .kind)) (links s b) track (take n list) (k .listed)) in
+      let all = all-below (links s b) (take n list) track (links s b .initial track .next) (is-chain (kindOf (b .kind)) (links s b) track (take n list) (k .keys .listed)) in
       let many = listed-many in
       subst (λ (p : ℕ). p < b .records .count) (getD-take n list i 0 lt) (below-at (b .records .count) (take n list) all i (omega (arith, lt, many)))
 
-  module _ (i : ℕ) (lt : i < n) (met m : Met) (a : Asking s b track list n again i met) (contract : metRead (kindOf (b .kind)) (b .initials .count) m ≡ keyMeets s (b .kind) track (links s b .at (getD list i 0) .frame) (links s b .at (getD list i 0) .body) (eqb (i + 1) again)) where
+  module _ {i : ℕ} (lt : i < n) {met : Met} (m : Met) (a : Asking s b track list n again i met) (contract : metRead (kindOf (b .kind)) (b .initials .count) m ≡ keyMeets s (b .kind) track (links s b .at (getD list i 0) .frame) (links s b .at (getD list i 0) .body) (eqb (i + 1) again)) where
     meets-here : left s b track (take n list) i ≡ (keyMeets s (b .kind) track (links s b .at (getD list i 0) .frame) (links s b .at (getD list i 0) .body) (eqb (i + 1) again) or left s b track (take n list) (suc i))
-    meets-here = record-meets s b slots ordered track is-track n list (k .listed) (λ j lj. let many = listed-many in omega (arith, lj, many)) again (k .repeat) i lt (a .before)
+    meets-here = record-meets s b slots (k .ordered) track (k .is-track) n list (k .keys .listed) (λ j lj. let many = listed-many in omega (arith, lj, many)) again (k .keys .repeat) i lt (a .before)
 
-    pub record-refused : (fault : Fault) → m ≡ Met.Refused fault → meets s b track ≡ some (faultOf (kindOf (b .kind)) (b .initials .count) fault)
-    record-refused fault seen = a .so-far ∙ meets-here ∙ rw (sym contract, seen)
+    pub record-refused : {fault : Fault} → m ≡ Met.Refused fault → meets s b track ≡ some (faultOf (kindOf (b .kind)) (b .initials .count) fault)
+    record-refused seen = a .so-far ∙ meets-here ∙ rw (sym contract, seen)
 
     -- A frame that is repeated is refused.
     not-again : m ≡ Met.Nothing → i + 1 ≡ again → ⊥
@@ -104,15 +111,15 @@ module _ (s : List ℕ) (b : Block) (slots : List ℕ) (ordered : Ordered s b sl
           nothing = a .nothing;
         }
 
-  pub asked-all : (i : ℕ) (met : Met) → n ≤ i → Asking s b track list n again i met → meets s b track ≡ none
+  pub asked-all : {i : ℕ} {met : Met} → n ≤ i → Asking s b track list n again i met → meets s b track ≡ none
   unfolding recordsRefusal
-  asked-all i met all a = let many = listed-many in a .so-far ∙ rw (drop-of-length-le (take n list) {i = i} (omega (arith, all, many)))
+  asked-all {i} all a = let many = listed-many in a .so-far ∙ rw (drop-of-length-le (take n list) {i = i} (omega (arith, all, many)))
 
-  pub tracking-more : (list₀ list₁ : List ℕ) (i : ℕ) (met met₀ : Met) → n ≤ i → Asking s b track list n again i met → Tracking s b list₀ list₁ met₀ track → length list ≡ length list₀ → Tracking s b list₀ list met (track + 1)
-  tracking-more list₀ list₁ i met met₀ all a t same =
+  pub tracking-more : {list₀ list₁ : List ℕ} {i : ℕ} {met met₀ : Met} → n ≤ i → Asking s b track list n again i met → Tracking s b list₀ list₁ met₀ track → length list ≡ length list₀ → Tracking s b list₀ list met (track + 1)
+  tracking-more all a t same =
       record {
-        most = omega (arith, is-track);
-        before = track-more s b track (t .before) (asked-all i met all a);
+        most = let less = k .is-track in omega arith;
+        before = track-more s b track (t .before) (asked-all all a);
         same = same;
         nothing = a .nothing;
       }

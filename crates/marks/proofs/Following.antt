@@ -23,6 +23,12 @@ nothing-found : {P : Type 0} {p : ℕ} → none ≡ some p → P
 nothing-found e = absurd (let z : _≡_ {A = ℕ} 0 1 = cc in omega arith)
 
 module _ {B : Type 0} (kind : Kind) (r : Records B) (track : ℕ) where
+  -- A track whose chain ends.
+  pub record Ending : Type 0 where
+    pub indexed : Indexed r
+    pub is-track : track < r .tracks
+    pub ended : chain kind r track ≡ answered (chainOf kind r track)
+
   -- What is left to mark of the chain, when n links were followed.
   pub record Following (marks₀ marks : List ℕ) (link n : ℕ) : Type 0 where
     pub rest : List ℕ
@@ -32,21 +38,20 @@ module _ {B : Type 0} (kind : Kind) (r : Records B) (track : ℕ) where
     pub same : length marks ≡ length marks₀
     pub to-mark : marked (track + 1) (chainOf kind r track) marks₀ ≡ marked (track + 1) rest marks
 
-module _ {B : Type 0} (kind : Kind) (r : Records B) (track : ℕ) (x : Indexed r) (is-track : track < r .tracks) (all-ends : chain kind r track ≡ answered (chainOf kind r track)) where
+module _ {B : Type 0} {kind : Kind} {r : Records B} {track : ℕ} (e : Ending kind r track) where
   whole : Chained r track (r .initial track .next) (chainOf kind r track)
-  whole = is-chain kind r track (chainOf kind r track) all-ends
+  whole = is-chain kind r track (chainOf kind r track) (e .ended)
 
   pub few : length (chainOf kind r track) ≤ r .additional
-  few = distinct-length (r .additional) (chainOf kind r track) (no-repeats r x track is-track (r .initial track .next) (chainOf kind r track) whole) (all-below r (chainOf kind r track) track (r .initial track .next) whole)
+  few = distinct-length (r .additional) (chainOf kind r track) (no-repeats r (e .indexed) track (e .is-track) (r .initial track .next) (chainOf kind r track) whole) (all-below r (chainOf kind r track) track (r .initial track .next) whole)
 
-module _ {B : Type 0} {kind : Kind} {r : Records B} {track : ℕ} (x : Indexed r) (is-track : track < r .tracks) (all-ends : chain kind r track ≡ answered (chainOf kind r track)) where
   module _ {marks₀ : List ℕ} where
     pub begins : {link : ℕ} → link ≡ r .initial track .next → Following kind r track marks₀ marks₀ link 0
     begins is =
         record {
           rest = chainOf kind r track;
           expected = track;
-          chained = rw is (whole kind r track x is-track all-ends);
+          chained = rw is whole;
           many = omega arith;
           same = refl;
           to-mark = refl;
@@ -66,14 +71,14 @@ module _ {B : Type 0} {kind : Kind} {r : Records B} {track : ℕ} (x : Indexed r
           where
             go : (rest : List ℕ) → Chained r (g .expected) link rest → P
             go [] c = absurd (on c)
-            go (p ∷ ps) c = nothing-found (sym is ∙ of-record r x link p (c .1) (c .2))
+            go (p ∷ ps) c = nothing-found (sym is ∙ of-record r (e .indexed) link p (c .1) (c .2))
 
         pub room : n < r .additional
         room = go (g .rest) (g .chained) (g .many)
           where
             go : (rest : List ℕ) → Chained r (g .expected) link rest → n + length rest ≡ length (chainOf kind r track) → n < r .additional
             go [] c many = absurd (on c)
-            go (p ∷ ps) c many = let most = few kind r track x is-track all-ends in omega (arith, many, most)
+            go (p ∷ ps) c many = let most = few in omega (arith, many, most)
 
         pub goes-on : {p next : ℕ} → recordOf r link ≡ some p → next ≡ r .at p .next → Following kind r track marks₀ (set marks p (track + 1)) next (n + 1)
         goes-on {p} {next} is to = go (g .rest) (g .chained) (g .many) (g .to-mark)
@@ -81,7 +86,7 @@ module _ {B : Type 0} {kind : Kind} {r : Records B} {track : ℕ} (x : Indexed r
             go : (rest : List ℕ) → Chained r (g .expected) link rest → n + length rest ≡ length (chainOf kind r track) → marked (track + 1) (chainOf kind r track) marks₀ ≡ marked (track + 1) rest marks → Following kind r track marks₀ (set marks p (track + 1)) next (n + 1)
             go [] c many left = absurd (on c)
             go (q ∷ qs) c many left =
-                let found : q ≡ p = some-is (sym (of-record r x link q (c .1) (c .2)) ∙ is) in
+                let found : q ≡ p = some-is (sym (of-record r (e .indexed) link q (c .1) (c .2)) ∙ is) in
                 record {
                   rest = qs;
                   expected = link;

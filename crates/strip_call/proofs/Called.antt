@@ -4,12 +4,12 @@ use native.Mathlib.Omega.{arith}
 use mathlib.Core.Bool.{Bool, true, false, cond, _||_}
 use mathlib.Core.List.{List, [], _∷_}
 use mathlib.Core.Option.{none}
-use mathlib.Core.Path.{_≡_, refl, sym, ap, _∙_, subst}
+use mathlib.Core.Path.{_≡_, sym, ap, _∙_, subst}
 use borrow.Author.Tests.{lt-ltb, le-ltb}
 use lib.Dec.{ltb}
 use lib.IntN.{pos}
 use lib.ListN.{length}
-use Rattle.layout.specs.Walk.{refusal, fine, refused, declined}
+use Rattle.layout.specs.Walk.{refusal, fine, refused}
 use Rattle.binary.specs.Answers.{because}
 use Rattle.section.specs.Limits.{edition1}
 use Rattle.section.specs.Model.{modelSection}
@@ -31,7 +31,7 @@ use Rattle.strip_call.specs.declared.answer.Strip.{Strip}
 use Rattle.strip_call.specs.declared.answer.StripRefusal.{StripRefusal}
 use Rattle.strip_call.proofs.Same.{same-met, same-strip, same-outcome, bones-stand, morphs-stand}
 
-module _ (s : List ℕ) (m : Model) (w : WasRead s m) (bb mb : Block) (eb : bb ≡ boneBlock m) (em : mb ≡ morphBlock m) (first second output : List ℕ) where
+module _ {s : List ℕ} {m : Model} (w : WasRead s m) {bb mb : Block} (eb : bb ≡ boneBlock m) (em : mb ≡ morphBlock m) where
   -- A and B, as the definition counts them.
   counted : bones s m .additional + morphs s m .additional ≡ bb .records .count + mb .records .count
   unfolding bones morphs recordsAt boneBlock morphBlock
@@ -45,7 +45,7 @@ module _ (s : List ℕ) (m : Model) (w : WasRead s m) (bb mb : Block) (eb : bb �
       let n2 : mb .records .count ≤ 65534 = rw em (b .morphs .within) in
       omega (arith, n1, n2)
 
-  pub strippable : bb .records .count + mb .records .count ≤ length first → bb .records .count + mb .records .count ≤ length second → Strippable s bb mb first second
+  pub strippable : {first second : List ℕ} → bb .records .count + mb .records .count ≤ length first → bb .records .count + mb .records .count ≤ length second → Strippable s bb mb first second
   unfolding boneBlock morphBlock
   strippable room₁ room₂ =
       let b = blocks edition1 s (w .start) m (w .end) (w .reads) in
@@ -62,38 +62,38 @@ module _ (s : List ℕ) (m : Model) (w : WasRead s m) (bb mb : Block) (eb : bb �
             rw (eb, em) (subst (λ (l : List ℕ). length l ≤ length s) (same-strip s m) short);
       }
 
-  tested : Bool → Outcome
-  tested b = cond b (untouched first second output (refusal 17 (pos (bb .records .count + mb .records .count) ∷ []))) (built first second output countWidth s m (bb .records .count + mb .records .count) (clipRefusal s m))
+  module _ (first second output : List ℕ) where
+    tested : Bool → Outcome
+    tested b = cond b (untouched first second output (refusal 17 (pos (bb .records .count + mb .records .count) ∷ []))) (built first second output countWidth s m (bb .records .count + mb .records .count) (clipRefusal s m))
 
-  by-test : (b : Bool) → (ltb (length first) (bb .records .count + mb .records .count) || ltb (length second) (bb .records .count + mb .records .count)) ≡ b → slicesTested first second output countWidth s m (bones s m .additional + morphs s m .additional) ≡ tested b
-  unfolding tested
-  by-test b e = rw (counted, e)
-
-  module _ (r : Strip) (need : ℕ) (is : need ≡ bb .records .count + mb .records .count) where
-    too-short : (b : Bool) → b ≡ true → (ltb (length first) (bb .records .count + mb .records .count) || ltb (length second) (bb .records .count + mb .records .count)) ≡ b → Says (slicesTested first second output countWidth s m (bones s m .additional + morphs s m .additional)) (Strip.Refused (StripRefusal.WorkTooShort need)) first second output
+    by-test : (b : Bool) → (ltb (length first) (bb .records .count + mb .records .count) || ltb (length second) (bb .records .count + mb .records .count)) ≡ b → slicesTested first second output countWidth s m (bones s m .additional + morphs s m .additional) ≡ tested b
     unfolding tested
-    too-short b t e =
-        let o = by-test true (e ∙ t) in
+    by-test b e = rw (counted, e)
+
+    too-short : (ltb (length first) (bb .records .count + mb .records .count) || ltb (length second) (bb .records .count + mb .records .count)) ≡ true → Says (slicesTested first second output countWidth s m (bones s m .additional + morphs s m .additional)) (Strip.Refused (StripRefusal.WorkTooShort (bb .records .count + mb .records .count))) first second output
+    unfolding tested
+    too-short e =
+        let o = by-test true e in
         record {
-          answers = ap (λ (k : ℕ). declined (refusal 17 (pos k ∷ []))) is ∙ sym (ap (λ (x : Outcome). x .answer) o);
+          answers = sym (ap (λ (x : Outcome). x .answer) o);
           leavesFirst = sym (ap (λ (x : Outcome). x .first) o);
           leavesSecond = sym (ap (λ (x : Outcome). x .second) o);
           leavesOutput = sym (ap (λ (x : Outcome). x .output) o);
         }
 
-    pub first-short : length first < need → Says (slicesTested first second output countWidth s m (bones s m .additional + morphs s m .additional)) (Strip.Refused (StripRefusal.WorkTooShort need)) first second output
-    first-short less = too-short true refl (rw (lt-ltb (length first) (bb .records .count + mb .records .count) (subst (λ (k : ℕ). length first < k) is less)))
+    pub first-short : length first < bb .records .count + mb .records .count → Says (slicesTested first second output countWidth s m (bones s m .additional + morphs s m .additional)) (Strip.Refused (StripRefusal.WorkTooShort (bb .records .count + mb .records .count))) first second output
+    first-short less = too-short (rw (lt-ltb (length first) (bb .records .count + mb .records .count) less))
 
-    pub second-short : need ≤ length first → length second < need → Says (slicesTested first second output countWidth s m (bones s m .additional + morphs s m .additional)) (Strip.Refused (StripRefusal.WorkTooShort need)) first second output
-    second-short fits less = too-short true refl (rw (le-ltb (length first) (bb .records .count + mb .records .count) (subst (λ (k : ℕ). k ≤ length first) is fits), lt-ltb (length second) (bb .records .count + mb .records .count) (subst (λ (k : ℕ). length second < k) is less)))
+    pub second-short : bb .records .count + mb .records .count ≤ length first → length second < bb .records .count + mb .records .count → Says (slicesTested first second output countWidth s m (bones s m .additional + morphs s m .additional)) (Strip.Refused (StripRefusal.WorkTooShort (bb .records .count + mb .records .count))) first second output
+    second-short fits less = too-short (rw (le-ltb (length first) (bb .records .count + mb .records .count) fits, lt-ltb (length second) (bb .records .count + mb .records .count) less))
 
-  pub long-enough : (r : Strip) (first′ second′ output′ : List ℕ) → bb .records .count + mb .records .count ≤ length first → bb .records .count + mb .records .count ≤ length second → Says (outcomeOf first second output (bb .records .count + mb .records .count) (partsOf s bb mb)) r first′ second′ output′ → Says (slicesTested first second output countWidth s m (bones s m .additional + morphs s m .additional)) r first′ second′ output′
-  unfolding tested
-  long-enough r first′ second′ output′ room₁ room₂ says =
-      let o = by-test false (rw (le-ltb (length first) (bb .records .count + mb .records .count) room₁, le-ltb (length second) (bb .records .count + mb .records .count) room₂)) in
-      let parts : built first second output countWidth s m (bb .records .count + mb .records .count) (clipRefusal s m) ≡ outcomeOf first second output (bb .records .count + mb .records .count) (partsOf s bb mb) =
-      same-outcome s m first second output (bb .records .count + mb .records .count) ∙ ap (λ (k : Block). outcomeOf first second output (bb .records .count + mb .records .count) (partsOf s k (morphBlock m))) (sym eb) ∙ ap (λ (k : Block). outcomeOf first second output (bb .records .count + mb .records .count) (partsOf s bb k)) (sym em) in
-      subst (λ (x : Outcome). Says x r first′ second′ output′) (sym (o ∙ parts)) says
+    pub long-enough : {r : Strip} {first′ second′ output′ : List ℕ} → bb .records .count + mb .records .count ≤ length first → bb .records .count + mb .records .count ≤ length second → Says (outcomeOf first second output (bb .records .count + mb .records .count) (partsOf s bb mb)) r first′ second′ output′ → Says (slicesTested first second output countWidth s m (bones s m .additional + morphs s m .additional)) r first′ second′ output′
+    unfolding tested
+    long-enough {r} {first′} {second′} {output′} room₁ room₂ says =
+        let o = by-test false (rw (le-ltb (length first) (bb .records .count + mb .records .count) room₁, le-ltb (length second) (bb .records .count + mb .records .count) room₂)) in
+        let parts : built first second output countWidth s m (bb .records .count + mb .records .count) (clipRefusal s m) ≡ outcomeOf first second output (bb .records .count + mb .records .count) (partsOf s bb mb) =
+        same-outcome s m first second output (bb .records .count + mb .records .count) ∙ ap (λ (k : Block). outcomeOf first second output (bb .records .count + mb .records .count) (partsOf s k (morphBlock m))) (sym eb) ∙ ap (λ (k : Block). outcomeOf first second output (bb .records .count + mb .records .count) (partsOf s bb k)) (sym em) in
+        subst (λ (x : Outcome). Says x r first′ second′ output′) (sym (o ∙ parts)) says
 
 module _ (s : List ℕ) (start : ℕ) (first second output : List ℕ) (a : ReadModel) (contract : modelRead a ≡ modelSection edition1 s start) where
   pub not-read : (why : _) → a ≡ ReadModel.Refused why → Says (stripCall edition1 countWidth s start first second output) (Strip.Refused (StripRefusal.Reading why)) first second output

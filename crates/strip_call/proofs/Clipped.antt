@@ -1,4 +1,4 @@
--- The build of both kinds, from the build of each. Assumes nothing.
+-- What the build of one kind told, and that each record is then reached or loose. Assumes nothing.
 use Prim.Native.Nat.{ℕ, _+_}
 use native.Mathlib.Omega.{arith}
 use mathlib.Core.List.{List}
@@ -11,15 +11,12 @@ use Rattle.chains.specs.declared.block.Block.{Block}
 use Rattle.strip_call.specs.Building.{Passed, Builds}
 use Rattle.strip_call.specs.declared.answer.BuiltKind.{BuiltKind}
 
-pub passed-all : (s : List ℕ) (b : Block) (slots marks : List ℕ) (reached left : ℕ) → Passed s b slots marks reached left → reached + left ≡ b .records .count
-passed-all s b slots marks reached left p =
+pub as-told : (s : List ℕ) (b : Block) (slots marks : List ℕ) {r told : BuiltKind} → r ≡ told → Builds s b slots marks r → Builds s b slots marks told
+as-told s b slots marks e builds = subst (λ (k : BuiltKind). Builds s b slots marks k) e builds
+
+pub passed-all : {s : List ℕ} {b : Block} {slots marks : List ℕ} {reached left : ℕ} → Passed s b slots marks reached left → reached + left ≡ b .records .count
+passed-all {s} {b} p =
     let all = reached-and-loose (kindOf (b .kind)) (testAt s b) (links s b) (sound (kindOf (b .kind)) (testAt s b) (links s b) (p .meets)) in
     let f = p .followed in
     let u = p .unreached in
-    omega (arith, all, f, u)
-
-pub counted : (s : List ℕ) (b : Block) (slots marks : List ℕ) (r : BuiltKind) (reached left : ℕ) → Builds s b slots marks r → r ≡ BuiltKind.Counted reached left → Passed s b slots marks reached left
-counted s b slots marks r reached left builds seen = subst (λ (k : BuiltKind). Builds s b slots marks k) seen builds
-
-pub kept : (s : List ℕ) (b : Block) (slots slots′ marks marks′ : List ℕ) (reached left : ℕ) → slots′ ≡ slots → marks′ ≡ marks → Passed s b slots marks reached left → Passed s b slots′ marks′ reached left
-kept s b slots slots′ marks marks′ reached left es em p = rw (es, em) p
+    omega arith

@@ -1,7 +1,7 @@
 -- Parts of slices, lent and put back. Assumes nothing.
 use Prim.Native.Nat.{ℕ, _+_, _-_, _≤_}
 use native.Mathlib.Omega.{arith}
-use mathlib.Core.List.{List, [], _∷_, _++_}
+use mathlib.Core.List.{List, _++_}
 use mathlib.Core.Path.{_≡_, refl, sym, ap, _∙_}
 use borrow.Rule.Slice.PartMut.{midOf, postOf, putMid, same-len-mid, mid-len, take-put, drop-put}
 use lib.ListN.{length, take, drop}
@@ -27,20 +27,18 @@ pub part-full : (from n : ℕ) (xs : List ℕ) → from + n ≤ length xs → le
 part-full from n xs room = mid-len from (from + n) xs room ∙ omega arith
 
 -- Two parts, one behind the other.
-module _ (a n : ℕ) where
-  further : (xs : List ℕ) → drop (0 + (a + n)) xs ≡ drop n (drop (0 + a) xs)
-  further xs = let sum : 0 + (a + n) ≡ 0 + a + n = omega arith in ap (λ (k : ℕ). drop k xs) sum ∙ sym (drop-drop n (0 + a) xs)
+further : (a n : ℕ) (xs : List ℕ) → drop (0 + (a + n)) xs ≡ drop n (drop (0 + a) xs)
+further a n xs = let sum : 0 + (a + n) ≡ 0 + a + n = omega arith in ap (λ (k : ℕ). drop k xs) sum ∙ sym (drop-drop n (0 + a) xs)
 
-  module _ (before middle after : List ℕ) where
-    pub outside-first : Outside 0 a before middle → Outside 0 (a + n) before middle
-    outside-first o = record { same = o .same; front = refl; back = further middle ∙ ap (drop n) (o .back) ∙ sym (further before) }
+pub outside-first : {a : ℕ} (n : ℕ) {before middle : List ℕ} → Outside 0 a before middle → Outside 0 (a + n) before middle
+outside-first {a} n {before} {middle} o = record { same = o .same; front = refl; back = further a n middle ∙ ap (drop n) (o .back) ∙ sym (further a n before) }
 
-    pub outside-both : Outside 0 a before middle → Outside a n middle after → Outside 0 (a + n) before after
-    outside-both o p =
-        let first = outside-first o in
-        let sum : 0 + (a + n) ≡ a + n = omega arith in
-        record {
-          same = p .same ∙ o .same;
-          front = refl;
-          back = ap (λ (k : ℕ). drop k after) sum ∙ p .back ∙ sym (ap (λ (k : ℕ). drop k middle) sum) ∙ first .back;
-        }
+pub outside-both : {a n : ℕ} {before middle after : List ℕ} → Outside 0 a before middle → Outside a n middle after → Outside 0 (a + n) before after
+outside-both {a} {n} {before} {middle} {after} o p =
+    let first = outside-first n o in
+    let sum : 0 + (a + n) ≡ a + n = omega arith in
+    record {
+      same = p .same ∙ o .same;
+      front = refl;
+      back = ap (λ (k : ℕ). drop k after) sum ∙ p .back ∙ sym (ap (λ (k : ℕ). drop k middle) sum) ∙ first .back;
+    }

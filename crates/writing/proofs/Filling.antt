@@ -10,12 +10,10 @@ use Rattle.clip.specs.Scan.{recordOf}
 use Rattle.keys.specs.Placed.{Room, Wrote}
 use Rattle.keys.proofs.Placing.{length-placed, room-back, wrote-then, wrote-none}
 use Rattle.chains.specs.Block.{links}
-use Rattle.chains.specs.Lookup.{Ordered}
-use Rattle.chains.specs.Tracks.{AllEnd}
 use Rattle.chains.specs.declared.block.Block.{Block}
 use Rattle.writing.specs.Tracks.{recordBytes, recordsBytes, chainAt, stripTrack, firstTracks}
 use Rattle.writing.specs.Along.{Along}
-use Rattle.writing.proofs.Following.{chain-most, begins, ends, more, next-is, goes-on}
+use Rattle.writing.proofs.Following.{Ending, chain-most, begins, ends, more, next-is, goes-on}
 use Rattle.writing.proofs.Sums.{no-records, records-more, records-within, no-tracks, first-more, first-within}
 
 -- What is written keeps the length of an output.
@@ -27,13 +25,13 @@ pub record Fills (s : List ℕ) (b : Block) (track place : ℕ) (old : List ℕ)
   pub along : Along s b track n link
   pub wrote : Wrote place (recordsBytes s b (take n (chainAt s b track))) old here new
 
-module _ (s : List ℕ) (b : Block) (slots : List ℕ) (ordered : Ordered s b slots) (end : AllEnd s b) (track : ℕ) (is-track : track < b .initials .count) (place : ℕ) (old : List ℕ) (room : Room place (recordsBytes s b (chainAt s b track)) old) where
-  pub filled-none : (link : ℕ) → link ≡ links s b .initial track .next → Fills s b track place old 0 link place old
-  filled-none link is = record { along = begins s b slots ordered end track is-track link is; wrote = rw (no-records s b) (wrote-none place old) }
+module _ {s : List ℕ} {b : Block} {slots : List ℕ} {track : ℕ} (e : Ending s b slots track) {place : ℕ} {old : List ℕ} (room : Room place (recordsBytes s b (chainAt s b track)) old) where
+  pub filled-none : {link : ℕ} → link ≡ links s b .initial track .next → Fills s b track place old 0 link place old
+  filled-none is = record { along = begins e is; wrote = rw (no-records s b) (wrote-none place old) }
 
-  module _ (n link here : ℕ) (new : List ℕ) (f : Fills s b track place old n link here new) where
+  module _ {n link here : ℕ} {new : List ℕ} (f : Fills s b track place old n link here new) where
     pub filled-few : n ≤ 65534
-    filled-few = let some = f .along .behind in let most = chain-most s b slots ordered end track is-track in omega (arith, some, most)
+    filled-few = let some = f .along .behind in let most = chain-most e in omega (arith, some, most)
 
     pub filled-length : length new ≡ length old
     filled-length =
@@ -41,13 +39,13 @@ module _ (s : List ℕ) (b : Block) (slots : List ℕ) (ordered : Ordered s b sl
         wrote-length place (recordsBytes s b (take n (chainAt s b track))) old here new (omega (arith, within, room)) (f .wrote)
 
     pub filled-all : link ≡ 0 → Wrote place (recordsBytes s b (chainAt s b track)) old here new
-    filled-all e =
-        let all : take n (chainAt s b track) ≡ chainAt s b track = rw (ends s b slots ordered end track is-track n link (f .along) e) (take-length (chainAt s b track)) in
+    filled-all zero-link =
+        let all : take n (chainAt s b track) ≡ chainAt s b track = rw (ends e (f .along) zero-link) (take-length (chainAt s b track)) in
         rw all at (f .wrote)
 
-    module _ (on : link ≡ 0 → ⊥) (p : ℕ) (found : recordOf (links s b) link ≡ some p) where
+    module _ (on : link ≡ 0 → ⊥) {p : ℕ} (found : recordOf (links s b) link ≡ some p) where
       step : recordsBytes s b (take (n + 1) (chainAt s b track)) ≡ recordsBytes s b (take n (chainAt s b track)) ++ recordBytes s b p
-      step = records-more s b (chainAt s b track) n (more s b slots ordered end track is-track n link (f .along) on) ∙ ap (λ (q : ℕ). recordsBytes s b (take n (chainAt s b track)) ++ recordBytes s b q) (sym (next-is s b slots ordered end track is-track n link (f .along) on p found))
+      step = records-more s b (chainAt s b track) n (more e (f .along) on) ∙ ap (λ (q : ℕ). recordsBytes s b (take n (chainAt s b track)) ++ recordBytes s b q) (sym (next-is e (f .along) on found))
 
       both : Room place (recordsBytes s b (take n (chainAt s b track)) ++ recordBytes s b p) old
       both =
@@ -58,10 +56,10 @@ module _ (s : List ℕ) (b : Block) (slots : List ℕ) (ordered : Ordered s b sl
       pub filled-room : Room here (recordBytes s b p) new
       filled-room = room-back place (recordsBytes s b (take n (chainAt s b track))) (recordBytes s b p) old both here new (f .wrote)
 
-      pub filled-more : (next after : ℕ) (newer : List ℕ) → Wrote here (recordBytes s b p) new after newer → next ≡ links s b .at p .next → Fills s b track place old (n + 1) next after newer
-      filled-more next after newer w to =
+      pub filled-more : {next after : ℕ} {newer : List ℕ} → Wrote here (recordBytes s b p) new after newer → next ≡ links s b .at p .next → Fills s b track place old (n + 1) next after newer
+      filled-more {next} {after} {newer} w to =
           record {
-            along = goes-on s b slots ordered end track is-track n link (f .along) on p found next to;
+            along = goes-on e (f .along) on found to;
             wrote = rw step (wrote-then place (recordsBytes s b (take n (chainAt s b track))) (recordBytes s b p) old both here new (f .wrote) after newer w);
           }
 
@@ -70,11 +68,11 @@ pub record Filled (s : List ℕ) (b : Block) (place : ℕ) (old : List ℕ) (n h
   pub some : n ≤ b .initials .count
   pub wrote : Wrote place (firstTracks s b n) old here new
 
-module _ (s : List ℕ) (b : Block) (place : ℕ) (old : List ℕ) (room : Room place (firstTracks s b (b .initials .count)) old) where
+module _ {s : List ℕ} {b : Block} {place : ℕ} {old : List ℕ} (room : Room place (firstTracks s b (b .initials .count)) old) where
   pub tracks-none : Filled s b place old 0 place old
   tracks-none = record { some = omega arith; wrote = rw (no-tracks s b) (wrote-none place old) }
 
-  module _ (n here : ℕ) (new : List ℕ) (f : Filled s b place old n here new) where
+  module _ {n here : ℕ} {new : List ℕ} (f : Filled s b place old n here new) where
     pub tracks-length : length new ≡ length old
     tracks-length =
         let within = first-within s b (b .initials .count) n (f .some) in
@@ -96,8 +94,8 @@ module _ (s : List ℕ) (b : Block) (place : ℕ) (old : List ℕ) (room : Room 
       pub tracks-room : Room here (stripTrack s b n) new
       tracks-room = room-back place (firstTracks s b n) (stripTrack s b n) old whole here new (f .wrote)
 
-      pub tracks-more : (after : ℕ) (newer : List ℕ) → Wrote here (stripTrack s b n) new after newer → Filled s b place old (n + 1) after newer
-      tracks-more after newer w =
+      pub tracks-more : {after : ℕ} {newer : List ℕ} → Wrote here (stripTrack s b n) new after newer → Filled s b place old (n + 1) after newer
+      tracks-more {after} {newer} w =
           record {
             some = omega arith;
             wrote = rw (first-more s b n) (wrote-then place (firstTracks s b n) (stripTrack s b n) old whole here new (f .wrote) after newer w);

@@ -48,26 +48,32 @@ module _ {B : Type 0} (r : Records B) where
   at-end [] link l e = refl
   at-end (p ∷ ps) link l e = absurd (l .0 e)
 
-module _ (s : List ℕ) (b : Block) (slots : List ℕ) (ordered : Ordered s b slots) (end : AllEnd s b) (track : ℕ) (is-track : track < b .initials .count) where
+-- A track whose chain ends.
+pub record Ending (s : List ℕ) (b : Block) (slots : List ℕ) (track : ℕ) : Type 0 where
+  pub ordered : Ordered s b slots
+  pub all-end : AllEnd s b
+  pub is-track : track < b .initials .count
+
+module _ {s : List ℕ} {b : Block} {slots : List ℕ} {track : ℕ} (e : Ending s b slots track) where
   chained : Chained (links s b) track (links s b .initial track .next) (chainAt s b track)
-  chained = is-chain (kindOf (b .kind)) (links s b) track (chainAt s b track) (end track is-track)
+  chained = is-chain (kindOf (b .kind)) (links s b) track (chainAt s b track) (e .all-end track (e .is-track))
 
   -- A chain has no more records than there are.
   pub chain-most : length (chainAt s b track) ≤ 65534
   chain-most =
-      let once = no-repeats (links s b) (ordered .indexed) track is-track (links s b .initial track .next) (chainAt s b track) chained in
+      let once = no-repeats (links s b) (e .ordered .indexed) track (e .is-track) (links s b .initial track .next) (chainAt s b track) chained in
       let below = all-below (links s b) (chainAt s b track) track (links s b .initial track .next) chained in
       let most = distinct-length (b .records .count) (chainAt s b track) once below in
-      let few = ordered .fits .fewRecords in
+      let few = e .ordered .fits .fewRecords in
       omega (arith, most, few)
 
-  pub begins : (link : ℕ) → link ≡ links s b .initial track .next → Along s b track 0 link
-  begins link is = record { behind = omega arith; leads = rw is (leads (links s b) (chainAt s b track) track (links s b .initial track .next) chained) }
+  pub begins : {link : ℕ} → link ≡ links s b .initial track .next → Along s b track 0 link
+  begins is = record { behind = omega arith; leads = rw is (leads (links s b) (chainAt s b track) track (links s b .initial track .next) chained) }
 
-  module _ (n link : ℕ) (along : Along s b track n link) where
+  module _ {n link : ℕ} (along : Along s b track n link) where
     pub ends : link ≡ 0 → n ≡ length (chainAt s b track)
-    ends e =
-        let out = at-end (links s b) (drop n (chainAt s b track)) link (along .leads) e in
+    ends zero-link =
+        let out = at-end (links s b) (drop n (chainAt s b track)) link (along .leads) zero-link in
         let long = length-drop n (chainAt s b track) in
         let some = along .behind in
         omega (arith, out, long, some)
@@ -83,20 +89,20 @@ module _ (s : List ℕ) (b : Block) (slots : List ℕ) (ordered : Ordered s b sl
       here = subst (λ (ps : List ℕ). Leads (links s b) link ps) (drop-cons (chainAt s b track) n 0 more) (along .leads)
 
       bears : recordOf (links s b) link ≡ some (getD (chainAt s b track) n 0)
-      bears = of-record (links s b) (ordered .indexed) link (getD (chainAt s b track) n 0) (here .1) (here .2)
+      bears = of-record (links s b) (e .ordered .indexed) link (getD (chainAt s b track) n 0) (here .1) (here .2)
 
       pub borne : Borne s b link
       borne = record { position = getD (chainAt s b track) n 0; bears = bears }
 
       -- The record that was found is the next one of the chain.
-      module _ (p : ℕ) (found : recordOf (links s b) link ≡ some p) where
+      module _ {p : ℕ} (found : recordOf (links s b) link ≡ some p) where
         pub next-is : p ≡ getD (chainAt s b track) n 0
         next-is = some-is (sym found ∙ bears)
 
         pub inside : p < b .records .count
         inside = rw next-is (here .1)
 
-        pub goes-on : (next : ℕ) → next ≡ links s b .at p .next → Along s b track (n + 1) next
-        goes-on next to =
+        pub goes-on : {next : ℕ} → next ≡ links s b .at p .next → Along s b track (n + 1) next
+        goes-on to =
             let less = more in
             record { behind = omega (arith, less); leads = rw (add-one, to, next-is) (here .3) }

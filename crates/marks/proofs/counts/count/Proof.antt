@@ -24,57 +24,47 @@ loop-holds c = starts
 
 mul-if2 : tie.Need-mul-if2 Inv-loop μ-loop
 mul-if2 c =
-    let start = c .before .before .before .before .before in
-    let less = c .if1 .taken in
-    let few = start .pre .0 .fewRecords in
-    omega (arith, less, few)
+    let few = c .before .before .before .before .before .pre .0 .fewRecords in
+    omega arith
 
 shared-slice-read-if2 : tie.Need-shared-slice-read-if2 Inv-loop μ-loop
 shared-slice-read-if2 c =
-    let start = c .before .before .before .before .before .before in
-    let long = ap length (start .pre .1) ∙ length-each (trackMark (kindOf (start .args .b .kind)) (links (start .args .s .now) (start .args .b))) (start .args .b .records .count) in
-    let less = c .before .if1 .taken in
-    omega (arith, less, long)
+    let long = ap length (c .before .before .before .before .before .before .pre .1) ∙ length-each _ _ in
+    omega arith
 
 unlinked-requires : tie.Need-unlinked-requires Inv-loop μ-loop
 unlinked-requires c κs = (c .before .before .before .before .before .before .before .pre .0, c .before .before .if1 .taken)
 
 add-loose : tie.Need-add-loose Inv-loop μ-loop
 add-loose c =
-    let start = c .before .before .before .before .before .before .before .before .before in
-    let less = c .before .before .before .before .if1 .taken in
-    let few = start .pre .0 .fewRecords in
-    let so-far = below (c .before .before .before .before .before .before .loop .inv) .1 in
-    omega (arith, less, few, so-far)
+    let few = c .before .before .before .before .before .before .before .before .before .pre .0 .fewRecords in
+    let so-far = below (c .before .before .before .before .before .before .loop .inv) in
+    omega arith
 
 add-disconnected : tie.Need-add-disconnected Inv-loop μ-loop
 add-disconnected c =
-    let start = c .before .before .before .before .before .before .before .before .before in
-    let less = c .before .before .before .before .if1 .taken in
-    let few = start .pre .0 .fewRecords in
-    let so-far = below (c .before .before .before .before .before .before .loop .inv) .0 in
-    omega (arith, less, few, so-far)
+    let few = c .before .before .before .before .before .before .before .before .before .pre .0 .fewRecords in
+    let so-far = below (c .before .before .before .before .before .before .loop .inv) in
+    omega arith
 
 add-p : tie.Need-add-p Inv-loop μ-loop
 add-p c =
-    let start = c .before .before .before .before .before .before .before in
-    let less = c .before .before .if1 .taken in
-    let few = start .pre .0 .fewRecords in
-    omega (arith, less, few)
+    let few = c .before .before .before .before .before .before .before .pre .0 .fewRecords in
+    omega arith
 
 loop-less : tie.Need-loop-less Inv-loop μ-loop
-loop-less c =
-    let less = c .before .before .if1 .taken in
-    omega (arith, less)
+loop-less c = omega arith
 
 loop-again : tie.Need-loop-again Inv-loop μ-loop
 loop-again c =
     let start = c .before .before .before .before .before .before .before in
     let loop = c .before .before .before .before .loop in
     let inside = c .before .before .if1 .taken in
-    let zero = zero-mark (kindOf (start .args .b .kind)) (links (start .args .s .now) (start .args .b)) (loop .p) in
-    let some = some-mark (kindOf (start .args .b .kind)) (links (start .args .s .now) (start .args .b)) (loop .p) in
-    let mark = ap (λ (l : List ℕ). getD l (loop .p) 0) (start .pre .1) ∙ each-at (trackMark (kindOf (start .args .b .kind)) (links (start .args .s .now) (start .args .b))) (start .args .b .records .count) (loop .p) inside in
+    let kind = kindOf (start .args .b .kind) in
+    let records = links (start .args .s .now) (start .args .b) in
+    let zero = zero-mark kind records (loop .p) in
+    let some = some-mark kind records (loop .p) in
+    let mark = ap (λ (l : List ℕ). getD l (loop .p) 0) (start .pre .1) ∙ each-at (trackMark kind records) (start .args .b .records .count) (loop .p) inside in
     ⊎-elim
     (λ w. rw (w .3, w .4) (takes (loop .inv) inside (zero (sym mark ∙ w .0 .taken)) (sym (w .1 .ensures) ∙ w .2 .taken)))
     (⊎-elim

@@ -1,5 +1,6 @@
 -- `mark_tracks` meets its contract. Assumes nothing.
 use Rattle.marks.proofs.Passing.{Passing, no-track, as-many, all-tracks, few-links, one-track}
+use Rattle.marks.proofs.Following.{Ending}
 use Rattle.chains.specs.Block.{kindOf, links}
 use lib.ListN.{length, length-replicate}
 use mathlib.Core.Path.{sym, ap, _∙_}
@@ -17,6 +18,9 @@ abbrev μ-loop : tie.MeasureT-loop
 loop-holds : tie.Need-loop-holds Inv-loop μ-loop
 loop-holds c = no-track (c .before .before .before .pre .1 .1)
 
+ending : (c : tie.Then1 Inv-loop μ-loop) → let start = c .before .before .before .before .before .before in Ending (kindOf (start .args .b .kind)) (links (start .args .s .now) (start .args .b)) (c .before .before .loop .track)
+ending c = let start = c .before .before .before .before .before .before in record { indexed = start .pre .0 .indexed; is-track = c .if1 .taken; ended = start .pre .1 .0 _ (c .if1 .taken) }
+
 mark-chain-requires : tie.Need-mark-chain-requires Inv-loop μ-loop
 mark-chain-requires c κs =
     let start = c .before .before .before .before .before .before .before in
@@ -24,32 +28,24 @@ mark-chain-requires c κs =
 
 add-reached : tie.Need-add-reached Inv-loop μ-loop
 add-reached c =
-    let start = c .before .before .before .before .before .before .before .before .before .before in
     let loop = c .before .before .before .before .before .before .loop in
-    let more = few-links (loop .inv) (start .pre .0 .indexed) (start .pre .0 .fits .fewRecords) (c .before .before .before .before .if1 .taken) (start .pre .1 .0 (loop .track) (c .before .before .before .before .if1 .taken)) (c .before .before .mark-chain .ensures .1) in
+    let fits = c .before .before .before .before .before .before .before .before .before .before .pre .0 .fits in
+    let more = few-links (loop .inv) (ending (c .before .before .before .before)) (fits .fewRecords) (c .before .before .mark-chain .ensures .1) in
     let most = loop .inv .most in
     let within = loop .inv .within in
-    let few = start .pre .0 .fits .fewTracks in
-    omega (arith, more, most, within, few)
+    let few = fits .fewTracks in
+    omega arith
 
 add-track : tie.Need-add-track Inv-loop μ-loop
 add-track c =
-    let start = c .before .before .before .before .before .before .before .before .before .before in
-    let loop = c .before .before .before .before .before .before .loop in
-    let within = loop .inv .within in
-    let few = start .pre .0 .fits .fewTracks in
-    omega (arith, within, few)
+    let few = c .before .before .before .before .before .before .before .before .before .before .pre .0 .fits .fewTracks in
+    omega arith
 
 loop-less : tie.Need-loop-less Inv-loop μ-loop
-loop-less c =
-    let less = c .before .before .before .before .if1 .taken in
-    omega (arith, less)
+loop-less c = omega arith
 
 loop-again : tie.Need-loop-again Inv-loop μ-loop
-loop-again c =
-    let start = c .before .before .before .before .before .before .before .before .before .before in
-    let loop = c .before .before .before .before .before .before .loop in
-    one-track (loop .inv) (start .pre .0 .indexed) (start .pre .0 .fits .fewRecords) (c .before .before .before .before .if1 .taken) (start .pre .1 .0 (loop .track) (c .before .before .before .before .if1 .taken)) (c .before .before .mark-chain .ensures .1) (c .before .before .mark-chain .ensures .0)
+loop-again c = one-track (c .before .before .before .before .before .before .loop .inv) (ending (c .before .before .before .before)) (c .before .before .before .before .before .before .before .before .before .before .pre .0 .fits .fewRecords) (c .before .before .mark-chain .ensures .1) (c .before .before .mark-chain .ensures .0)
 
 same-length : tie.Need-same-length Inv-loop μ-loop
 same-length c =

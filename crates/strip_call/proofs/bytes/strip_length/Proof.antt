@@ -1,5 +1,7 @@
 -- `strip_length` meets its contract. Assumes nothing.
 use Rattle.strip_call.proofs.Pieces.{bones-in, morphs-in, measured}
+use Prim.Native.Nat.{_+_, _≤_}
+use lib.ListN.{length}
 use native.Mathlib.Omega.{arith}
 use borrow.Author.Needs.{needs}
 use Rattle.strip_call.proofs.bytes.strip_length.Statement.{statement}
@@ -30,60 +32,29 @@ part-morph-part-end : tie.Need-part-morph-part-end
 part-morph-part-end c = search needs
 
 tracks-length-requires : tie.Need-tracks-length-requires
-tracks-length-requires c κs =
-    let start = c .before .before .before .before .before in
-    let s = start .args .s .now in
-    let bones = start .args .bones in
-    let morphs = start .args .morphs in
-    let r = start .pre in
-    (bones-in s bones morphs (start .args .first .now) r, r .boneEnds)
+tracks-length-requires c κs = let r = c .before .before .before .before .before .pre in (bones-in r, r .boneEnds)
 
 tracks-length-requires-2 : tie.Need-tracks-length-requires-2
-tracks-length-requires-2 c κs =
-    let start = c .before .before .before .before .before .before in
-    let s = start .args .s .now in
-    let bones = start .args .bones in
-    let morphs = start .args .morphs in
-    let r = start .pre in
-    (morphs-in s bones morphs (start .args .first .now) r, r .morphEnds)
+tracks-length-requires-2 c κs = let r = c .before .before .before .before .before .before .pre in (morphs-in r, r .morphEnds)
+
+-- The parts' lengths together are no more than the section's.
+short : (c : tie.After-tracks-length2) → 4 + c .before .tracks-length .result + c .tracks-length2 .result ≤ length (c .before .before .before .before .before .before .before .args .s .now)
+short c =
+    let r = c .before .before .before .before .before .before .before .pre in
+    let all = measured r in
+    let most = r .short in
+    omega arith
 
 add-result : tie.Need-add-result
-add-result c =
-    let start = c .before .before .before .before .before .before .before in
-    let s = start .args .s .now in
-    let bones = start .args .bones in
-    let morphs = start .args .morphs in
-    let r = start .pre in
-    let all = measured s bones morphs (start .args .first .now) r in
-    let short = r .short in
-    let one = c .before .tracks-length .ensures in
-    let two = c .tracks-length2 .ensures in
-    omega (arith, all, short, one, two, start .good)
+add-result c = omega (arith, short c, c .before .before .before .before .before .before .before .good)
 
 add-result-2 : tie.Need-add-result-2
-add-result-2 c =
-    let start = c .before .before .before .before .before .before .before in
-    let s = start .args .s .now in
-    let bones = start .args .bones in
-    let morphs = start .args .morphs in
-    let r = start .pre in
-    let all = measured s bones morphs (start .args .first .now) r in
-    let short = r .short in
-    let one = c .before .tracks-length .ensures in
-    let two = c .tracks-length2 .ensures in
-    omega (arith, all, short, one, two, start .good)
+add-result-2 c = omega (arith, short c, c .before .before .before .before .before .before .before .good)
 
 returns : tie.Need-returns
 returns c =
-    let start = c .before .before .before .before .before .before .before in
-    let s = start .args .s .now in
-    let bones = start .args .bones in
-    let morphs = start .args .morphs in
-    let r = start .pre in
-    let all = measured s bones morphs (start .args .first .now) r in
-    let one = c .before .tracks-length .ensures in
-    let two = c .tracks-length2 .ensures in
-    omega (arith, all, one, two)
+    let all = measured (c .before .before .before .before .before .before .before .pre) in
+    omega arith
 
 pub strip-length-spec : {M : Type 1} → statement M
 strip-length-spec =

@@ -1,6 +1,7 @@
 -- `write_strip` meets its contract. Assumes nothing.
 use Rattle.strip_call.proofs.Pieces.{bones-in, morphs-in, measured, second-fits, bones-fit, morphs-fit, all-written, wrote-length}
 use Rattle.strip_call.specs.Bytes.{stripBytes}
+use Rattle.keys.specs.Placed.{Wrote}
 use native.Mathlib.Omega.{arith}
 use borrow.Author.Needs.{needs}
 use Rattle.strip_call.proofs.bytes.write_strip.Statement.{statement}
@@ -33,103 +34,37 @@ part-morph-part-end c = search needs
 write-count-requires : tie.Need-write-count-requires
 write-count-requires c κs =
     let start = c .before .before .before .before .before .before .before in
-    let s = start .args .s .now in
-    let bones = start .args .bones in
-    let morphs = start .args .morphs in
-    let r = start .pre .0 in
-    let first = start .args .first .now in
-    let out₀ = start .args .output .now in
+    let all = measured (start .pre .0) in
     let room = start .pre .1 in
-    let all = measured s bones morphs first r in
-    omega (arith, all, room)
+    omega arith
 
 write-count-requires-2 : tie.Need-write-count-requires-2
 write-count-requires-2 c κs =
     let start = c .before .before .before .before .before .before .before .before .before .before .before in
-    let s = start .args .s .now in
-    let bones = start .args .bones in
-    let morphs = start .args .morphs in
-    let r = start .pre .0 in
-    let first = start .args .first .now in
-    let out₀ = start .args .output .now in
-    let room = start .pre .1 in
-    let out₁ = c .before .before .before .write-count .last .0 in
-    let e₁ = c .before .before .before .write-count .ensures in
-    second-fits s bones morphs first r out₀ room out₁ e₁
+    second-fits (start .pre .0) _ (start .pre .1) (c .before .before .before .write-count .ensures)
 
 write-tracks-requires : tie.Need-write-tracks-requires
 write-tracks-requires c κs =
     let start = c .before .before .before .before .before .before .before .before .before .before .before .before .before .before .before in
-    let s = start .args .s .now in
-    let bones = start .args .bones in
-    let morphs = start .args .morphs in
     let r = start .pre .0 in
-    let first = start .args .first .now in
-    let out₀ = start .args .output .now in
-    let room = start .pre .1 in
-    let out₁ = c .before .before .before .before .before .before .before .write-count .last .0 in
-    let e₁ = c .before .before .before .before .before .before .before .write-count .ensures in
-    let out₂ = c .before .before .before .write-count2 .last .0 in
-    let e₂ = c .before .before .before .write-count2 .ensures in
-    (bones-in s bones morphs first r, (r .boneEnds, bones-fit s bones morphs first r out₀ room out₁ e₁ out₂ e₂))
+    (bones-in r, (r .boneEnds, bones-fit r _ (start .pre .1) (c .before .before .before .before .before .before .before .write-count .ensures) (c .before .before .before .write-count2 .ensures)))
 
 write-tracks-requires-2 : tie.Need-write-tracks-requires-2
 write-tracks-requires-2 c κs =
     let start = c .before .before .before .before .before .before .before .before .before .before .before .before .before .before .before .before .before .before .before in
-    let s = start .args .s .now in
-    let bones = start .args .bones in
-    let morphs = start .args .morphs in
     let r = start .pre .0 in
-    let first = start .args .first .now in
-    let out₀ = start .args .output .now in
-    let room = start .pre .1 in
-    let out₁ = c .before .before .before .before .before .before .before .before .before .before .before .write-count .last .0 in
-    let e₁ = c .before .before .before .before .before .before .before .before .before .before .before .write-count .ensures in
-    let out₂ = c .before .before .before .before .before .before .before .write-count2 .last .0 in
-    let e₂ = c .before .before .before .before .before .before .before .write-count2 .ensures in
-    let three = c .before .before .before .write-tracks in
-    let out₃ = three .last .1 .1 .1 .0 in
-    (morphs-in s bones morphs first r, (r .morphEnds, morphs-fit s bones morphs first r out₀ room out₁ e₁ out₂ e₂ (three .result) out₃ (three .ensures)))
+    (morphs-in r, (r .morphEnds, morphs-fit r _ (start .pre .1) (c .before .before .before .before .before .before .before .before .before .before .before .write-count .ensures) (c .before .before .before .before .before .before .before .write-count2 .ensures) (c .before .before .before .write-tracks .ensures)))
+
+wrote : (c : tie.After-write-tracks2) → let start = c .before .before .before .before .before .before .before .before .before .before .before .before .before .before .before .before .before .before .before .before in Wrote 0 (stripBytes (start .args .s .now) (start .args .bones) (start .args .morphs)) (start .args .output .now) (c .write-tracks2 .result) (c .write-tracks2 .last .1 .1 .1 .0)
+wrote c =
+    let start = c .before .before .before .before .before .before .before .before .before .before .before .before .before .before .before .before .before .before .before .before in
+    all-written (start .pre .0) _ (start .pre .1) (c .before .before .before .before .before .before .before .before .before .before .before .before .write-count .ensures) (c .before .before .before .before .before .before .before .before .write-count2 .ensures) (c .before .before .before .before .write-tracks .ensures) (c .write-tracks2 .ensures)
 
 same-length : tie.Need-same-length
-same-length c =
-    let start = c .before .before .before .before .before .before .before .before .before .before .before .before .before .before .before .before .before .before .before .before .before .before in
-    let s = start .args .s .now in
-    let bones = start .args .bones in
-    let morphs = start .args .morphs in
-    let r = start .pre .0 in
-    let first = start .args .first .now in
-    let out₀ = start .args .output .now in
-    let room = start .pre .1 in
-    let out₁ = c .before .before .before .before .before .before .before .before .before .before .before .before .before .before .write-count .last .0 in
-    let e₁ = c .before .before .before .before .before .before .before .before .before .before .before .before .before .before .write-count .ensures in
-    let out₂ = c .before .before .before .before .before .before .before .before .before .before .write-count2 .last .0 in
-    let e₂ = c .before .before .before .before .before .before .before .before .before .before .write-count2 .ensures in
-    let three = c .before .before .before .before .before .before .write-tracks in
-    let out₃ = three .last .1 .1 .1 .0 in
-    let four = c .before .before .write-tracks2 in
-    let out₄ = four .last .1 .1 .1 .0 in
-    wrote-length (stripBytes s bones morphs) out₀ out₄ (four .result) room (all-written s bones morphs first r out₀ room out₁ e₁ out₂ e₂ (three .result) out₃ (three .ensures) (four .result) out₄ (four .ensures))
+same-length c = wrote-length (c .before .before .before .before .before .before .before .before .before .before .before .before .before .before .before .before .before .before .before .before .before .before .pre .1) (wrote (c .before .before))
 
 returns : tie.Need-returns
-returns c =
-    let start = c .before .before .before .before .before .before .before .before .before .before .before .before .before .before .before .before .before .before .before .before .before .before in
-    let s = start .args .s .now in
-    let bones = start .args .bones in
-    let morphs = start .args .morphs in
-    let r = start .pre .0 in
-    let first = start .args .first .now in
-    let out₀ = start .args .output .now in
-    let room = start .pre .1 in
-    let out₁ = c .before .before .before .before .before .before .before .before .before .before .before .before .before .before .write-count .last .0 in
-    let e₁ = c .before .before .before .before .before .before .before .before .before .before .before .before .before .before .write-count .ensures in
-    let out₂ = c .before .before .before .before .before .before .before .before .before .before .write-count2 .last .0 in
-    let e₂ = c .before .before .before .before .before .before .before .before .before .before .write-count2 .ensures in
-    let three = c .before .before .before .before .before .before .write-tracks in
-    let out₃ = three .last .1 .1 .1 .0 in
-    let four = c .before .before .write-tracks2 in
-    let out₄ = four .last .1 .1 .1 .0 in
-    all-written s bones morphs first r out₀ room out₁ e₁ out₂ e₂ (three .result) out₃ (three .ensures) (four .result) out₄ (four .ensures)
+returns c = wrote (c .before .before)
 
 pub write-strip-spec : {M : Type 1} → statement M
 write-strip-spec =

@@ -1,11 +1,11 @@
 -- `strip_blocks` meets its contract. Assumes nothing.
 use borrow.Author.Tests.{leb-true, leb-false}
 use mathlib.Core.Path.{sym, _∙_}
-use Prim.Native.Nat.{_<_, _≤_}
+use Prim.Native.Nat.{_≤_}
 use native.Mathlib.Omega.{arith}
 use lib.ListN.{length}
 use Rattle.strip_call.specs.Bytes.{stripBytes}
-use Rattle.strip_call.proofs.Ended.{bones-refused, morphs-refused, readable, output-short, written-says}
+use Rattle.strip_call.proofs.Ended.{Ran, bones-refused, morphs-refused, readable, output-short, written-says}
 use borrow.Author.Needs.{needs}
 use Rattle.strip_call.proofs.call.strip_blocks.Statement.{statement}
 use Rattle.strip_call.proofs.call.strip_blocks.Tie as tie
@@ -31,34 +31,22 @@ refuse-requires-2 c κs = search needs
 enum-known-reached : tie.Need-enum-known-reached
 enum-known-reached c = search needs
 
+module _ (c : tie.After-build-clip) where
+  abbrev start : tie.Start
+  start = c .before .before .before .before .before .before .before .before .before
+
+  ran : Ran (start .args .s .now) (start .args .of-bones) (start .args .of-morphs) (start .args .first .now) (start .args .second .now) (c .build-clip .last .1 .1 .1 .0) (c .build-clip .last .1 .1 .1 .1 .0) (c .build-clip .result)
+  ran = record { strippable = start .pre; outsideFirst = c .build-clip .ensures .1 .0; outsideSecond = c .build-clip .ensures .1 .1; builds = c .build-clip .ensures .0 }
+
 strip-fits-requires : tie.Need-strip-fits-requires
-strip-fits-requires c κs =
-    let start = c .before .before .before .before .before .before .before .before .before .before .before .before .before .before .before .before .before in
-    let s = start .args .s .now in
-    let bones = start .args .of-bones in
-    let morphs = start .args .of-morphs in
-    let first = start .args .first .now in
-    let second = start .args .second .now in
-    let output = start .args .output .now in
-    let clip = c .before .before .before .before .before .before .before .before .build-clip in
-    let first₁ = clip .last .1 .1 .1 .0 in
-    let second₁ = clip .last .1 .1 .1 .1 .0 in
-    readable s bones morphs first second output (start .pre) first₁ second₁ (clip .ensures .1 .0) (clip .ensures .1 .1) (clip .result) (clip .ensures .0) (c .before .before .reached .given .0 .0) (c .before .before .reached .given .0 .1 .0) (c .before .before .reached .given .1)
+strip-fits-requires c κs = readable (ran (c .before .before .before .before .before .before .before .before)) (c .before .before .reached .given .1)
+
+-- The output is long enough.
+enough : (c : tie.Then1) → let start = c .before .before .before .before .before .before .before .before .before .before .before .before .before .before .before .before .before .before .before in length (stripBytes (start .args .s .now) (start .args .of-bones) (start .args .of-morphs)) ≤ length (start .args .output .now)
+enough c = leb-true _ _ (sym (c .before .strip-fits .ensures) ∙ c .if1 .taken)
 
 write-strip-requires : tie.Need-write-strip-requires
-write-strip-requires c κs =
-    let start = c .before .before .before .before .before .before .before .before .before .before .before .before .before .before .before .before .before .before .before .before .before in
-    let s = start .args .s .now in
-    let bones = start .args .of-bones in
-    let morphs = start .args .of-morphs in
-    let first = start .args .first .now in
-    let second = start .args .second .now in
-    let output = start .args .output .now in
-    let clip = c .before .before .before .before .before .before .before .before .before .before .before .before .build-clip in
-    let first₁ = clip .last .1 .1 .1 .0 in
-    let second₁ = clip .last .1 .1 .1 .1 .0 in
-    let enough : length (stripBytes s bones morphs) ≤ length output = leb-true (length (stripBytes s bones morphs)) (length output) (sym (c .before .before .before .strip-fits .ensures) ∙ c .before .before .if1 .taken) in
-    (readable s bones morphs first second output (start .pre) first₁ second₁ (clip .ensures .1 .0) (clip .ensures .1 .1) (clip .result) (clip .ensures .0) (c .before .before .before .before .before .before .reached .given .0 .0) (c .before .before .before .before .before .before .reached .given .0 .1 .0) (c .before .before .before .before .before .before .reached .given .1), omega (arith, enough))
+write-strip-requires c κs = (readable (ran (c .before .before .before .before .before .before .before .before .before .before .before .before)) (c .before .before .before .before .before .before .reached .given .1), omega (arith, enough (c .before .before)))
 
 same-length : tie.Need-same-length
 same-length c = search needs
@@ -70,34 +58,10 @@ same-length-3 : tie.Need-same-length-3
 same-length-3 c = search needs
 
 returns : tie.Need-returns
-returns c =
-    let start = c .before .before .before .before .before .before .before .before .before .before .before .before .before .before .before .before .before .before .before .before .before .before .before .before in
-    let s = start .args .s .now in
-    let bones = start .args .of-bones in
-    let morphs = start .args .of-morphs in
-    let first = start .args .first .now in
-    let second = start .args .second .now in
-    let output = start .args .output .now in
-    let clip = c .before .before .before .before .before .before .before .before .before .before .before .before .before .before .before .build-clip in
-    let first₁ = clip .last .1 .1 .1 .0 in
-    let second₁ = clip .last .1 .1 .1 .1 .0 in
-    let wrote = c .before .before .write-strip in
-    let enough : length (stripBytes s bones morphs) ≤ length output = leb-true (length (stripBytes s bones morphs)) (length output) (sym (c .before .before .before .before .before .before .strip-fits .ensures) ∙ c .before .before .before .before .before .if1 .taken) in
-    written-says s bones morphs first second output (start .pre) first₁ second₁ (clip .ensures .1 .0) (clip .ensures .1 .1) (clip .result) (clip .ensures .0) (c .before .before .before .before .before .before .before .before .before .reached .given .0 .0) (c .before .before .before .before .before .before .before .before .before .reached .given .0 .1 .0) (c .before .before .before .before .before .before .before .before .before .reached .given .1) enough (wrote .result) (wrote .last .1 .1 .1 .1 .0) (wrote .ensures)
+returns c = written-says (ran (c .before .before .before .before .before .before .before .before .before .before .before .before .before .before .before)) (c .before .before .before .before .before .before .before .before .before .reached .given .1) (enough (c .before .before .before .before .before)) (c .before .before .write-strip .ensures)
 
 strip-length-requires : tie.Need-strip-length-requires
-strip-length-requires c κs =
-    let start = c .before .before .before .before .before .before .before .before .before .before .before .before .before .before .before .before .before .before .before .before in
-    let s = start .args .s .now in
-    let bones = start .args .of-bones in
-    let morphs = start .args .of-morphs in
-    let first = start .args .first .now in
-    let second = start .args .second .now in
-    let output = start .args .output .now in
-    let clip = c .before .before .before .before .before .before .before .before .before .before .before .build-clip in
-    let first₁ = clip .last .1 .1 .1 .0 in
-    let second₁ = clip .last .1 .1 .1 .1 .0 in
-    readable s bones morphs first second output (start .pre) first₁ second₁ (clip .ensures .1 .0) (clip .ensures .1 .1) (clip .result) (clip .ensures .0) (c .before .before .before .before .before .reached .given .0 .0) (c .before .before .before .before .before .reached .given .0 .1 .0) (c .before .before .before .before .before .reached .given .1)
+strip-length-requires c κs = readable (ran (c .before .before .before .before .before .before .before .before .before .before .before)) (c .before .before .before .before .before .reached .given .1)
 
 refuse-requires-3 : tie.Need-refuse-requires-3
 refuse-requires-3 c κs = search needs
@@ -109,18 +73,7 @@ same-length-5 : tie.Need-same-length-5
 same-length-5 c = search needs
 
 returns-2 : tie.Need-returns-2
-returns-2 c =
-    let start = c .before .before .before .before .before .before .before .before .before .before .before .before .before .before .before .before .before .before .before .before .before .before .before in
-    let s = start .args .s .now in
-    let bones = start .args .of-bones in
-    let morphs = start .args .of-morphs in
-    let first = start .args .first .now in
-    let second = start .args .second .now in
-    let output = start .args .output .now in
-    let clip = c .before .before .before .before .before .before .before .before .before .before .before .before .before .before .build-clip in
-    let first₁ = clip .last .1 .1 .1 .0 in
-    let second₁ = clip .last .1 .1 .1 .1 .0 in
-    bones-refused s bones morphs first second output (start .pre) first₁ second₁ (clip .ensures .1 .0) (clip .ensures .1 .1) (clip .result) (clip .ensures .0) (c .before .before .before .before .before .before .before .before .count .given .0 .0) (c .before .before .before .before .before .before .before .before .count .given .0 .1 .0) (c .before .before .before .before .before .before .before .before .count .given .1) (c .before .before .before .before .refuse .result) (c .before .before .before .before .refuse .last .1 .1 .0) (c .before .before .before .before .refuse .last .1 .1 .1 .0) (c .before .before .before .before .refuse .ensures)
+returns-2 c = bones-refused (ran (c .before .before .before .before .before .before .before .before .before .before .before .before .before .before)) (c .before .before .before .before .before .before .before .before .count .given .1) (c .before .before .before .before .refuse .ensures)
 
 same-length-6 : tie.Need-same-length-6
 same-length-6 c = search needs
@@ -129,18 +82,7 @@ same-length-7 : tie.Need-same-length-7
 same-length-7 c = search needs
 
 returns-3 : tie.Need-returns-3
-returns-3 c =
-    let start = c .before .before .before .before .before .before .before .before .before .before .before .before .before .before .before .before .before .before .before .before .before .before .before in
-    let s = start .args .s .now in
-    let bones = start .args .of-bones in
-    let morphs = start .args .of-morphs in
-    let first = start .args .first .now in
-    let second = start .args .second .now in
-    let output = start .args .output .now in
-    let clip = c .before .before .before .before .before .before .before .before .before .before .before .before .before .before .build-clip in
-    let first₁ = clip .last .1 .1 .1 .0 in
-    let second₁ = clip .last .1 .1 .1 .1 .0 in
-    morphs-refused s bones morphs first second output (start .pre) first₁ second₁ (clip .ensures .1 .0) (clip .ensures .1 .1) (clip .result) (clip .ensures .0) (c .before .before .before .before .before .before .before .before .count2 .given .0 .0) (c .before .before .before .before .before .before .before .before .count2 .given .0 .1 .0) (c .before .before .before .before .before .before .before .before .count2 .given .1) (c .before .before .before .before .refuse2 .result) (c .before .before .before .before .refuse2 .last .1 .1 .0) (c .before .before .before .before .refuse2 .last .1 .1 .1 .0) (c .before .before .before .before .refuse2 .ensures)
+returns-3 c = morphs-refused (ran (c .before .before .before .before .before .before .before .before .before .before .before .before .before .before)) (c .before .before .before .before .before .before .before .before .count2 .given .1) (c .before .before .before .before .refuse2 .ensures)
 
 same-length-8 : tie.Need-same-length-8
 same-length-8 c = search needs
@@ -150,19 +92,8 @@ same-length-9 c = search needs
 
 returns-4 : tie.Need-returns-4
 returns-4 c =
-    let start = c .before .before .before .before .before .before .before .before .before .before .before .before .before .before .before .before .before .before .before .before .before .before .before .before .before .before .before .before in
-    let s = start .args .s .now in
-    let bones = start .args .of-bones in
-    let morphs = start .args .of-morphs in
-    let first = start .args .first .now in
-    let second = start .args .second .now in
-    let output = start .args .output .now in
-    let clip = c .before .before .before .before .before .before .before .before .before .before .before .before .before .before .before .before .before .before .before .build-clip in
-    let first₁ = clip .last .1 .1 .1 .0 in
-    let second₁ = clip .last .1 .1 .1 .1 .0 in
-    let measured = c .before .before .before .before .before .before .before .strip-length in
-    let less : length output < length (stripBytes s bones morphs) = leb-false (length (stripBytes s bones morphs)) (length output) (sym (c .before .before .before .before .before .before .before .before .before .before .strip-fits .ensures) ∙ c .before .before .before .before .before .before .before .before .before .if1 .left) in
-    output-short s bones morphs first second output (start .pre) first₁ second₁ (clip .ensures .1 .0) (clip .ensures .1 .1) (clip .result) (clip .ensures .0) (c .before .before .before .before .before .before .before .before .before .before .before .before .before .reached .given .0 .0) (c .before .before .before .before .before .before .before .before .before .before .before .before .before .reached .given .0 .1 .0) (c .before .before .before .before .before .before .before .before .before .before .before .before .before .reached .given .1) (measured .result) (measured .ensures) less (c .before .before .before .before .refuse3 .result) (c .before .before .before .before .refuse3 .last .1 .1 .0) (c .before .before .before .before .refuse3 .last .1 .1 .1 .0) (c .before .before .before .before .refuse3 .ensures)
+    let less = leb-false _ _ (sym (c .before .before .before .before .before .before .before .before .before .before .strip-fits .ensures) ∙ c .before .before .before .before .before .before .before .before .before .if1 .left) in
+    output-short (ran (c .before .before .before .before .before .before .before .before .before .before .before .before .before .before .before .before .before .before .before)) (c .before .before .before .before .before .before .before .before .before .before .before .before .before .reached .given .1) (c .before .before .before .before .before .before .before .strip-length .ensures) less (c .before .before .before .before .refuse3 .ensures)
 
 pub strip-blocks-spec : {M : Type 1} → statement M
 strip-blocks-spec =

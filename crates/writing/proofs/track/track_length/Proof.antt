@@ -16,27 +16,20 @@ add-result : tie.Need-add-result
 add-result c =
     let start = c .before .before .before .before in
     let long = track-long (start .args .s .now) (start .args .b) (start .args .track) in
-    let most = track-fits (start .args .s .now) (start .args .b) (start .args .slots .now) (start .pre .0) (start .pre .1 .0) (start .args .track) (start .pre .1 .1) in
-    let first = c .initial-length .ensures in
-    omega (arith, long, most, first)
+    let most = track-fits (start .pre .0) (start .pre .1 .0) (start .args .track) (start .pre .1 .1) in
+    omega arith
 
 add-result-2 : tie.Need-add-result-2
 add-result-2 c =
     let start = c .before .before .before .before .before in
     let long = track-long (start .args .s .now) (start .args .b) (start .args .track) in
-    let most = track-fits (start .args .s .now) (start .args .b) (start .args .slots .now) (start .pre .0) (start .pre .1 .0) (start .args .track) (start .pre .1 .1) in
-    let first = c .before .initial-length .ensures in
-    let rest = c .before .before .measure .ensures .1 in
-    omega (arith, long, most, first, rest)
+    let most = track-fits (start .pre .0) (start .pre .1 .0) (start .args .track) (start .pre .1 .1) in
+    omega arith
 
 returns : tie.Need-returns
 returns c =
-    let start = c .before .before .before .before .before in
-    let long = track-long (start .args .s .now) (start .args .b) (start .args .track) in
-    let most = track-fits (start .args .s .now) (start .args .b) (start .args .slots .now) (start .pre .0) (start .pre .1 .0) (start .args .track) (start .pre .1 .1) in
-    let first = c .before .initial-length .ensures in
-    let rest = c .before .before .measure .ensures .1 in
-    omega (arith, long, first, rest)
+    let long = track-long (c .before .before .before .before .before .args .s .now) (c .before .before .before .before .before .args .b) (c .before .before .before .before .before .args .track) in
+    omega arith
 
 pub track-length-spec : {M : Type 1} → statement M
 track-length-spec =

@@ -25,7 +25,7 @@ write-records-requires c κs =
 add-write-count : tie.Need-add-write-count
 add-write-count c =
     let start = c .before .before .before .before .before .before .before .before .before .before .before .before .before in
-    let most = chain-most (start .args .s .now) (start .args .b) (start .args .slots .now) (start .pre .0) (start .pre .1 .0) (start .args .track) (start .pre .1 .1 .0) in
+    let most = chain-most (record { ordered = start .pre .0; all-end = start .pre .1 .0; is-track = start .pre .1 .1 .0 }) in
     let is = c .before .before .before .before .write-records .ensures .0 in
     omega (arith, most, is)
 

@@ -12,7 +12,7 @@ abbrev μ-loop : tie.MeasureT-loop
 μ-loop s b slots count track₀ bytes₀ track bytes = b .initials .count - track
 
 loop-holds : tie.Need-loop-holds Inv-loop μ-loop
-loop-holds c = counted-none _ _
+loop-holds c = counted-none
 
 track-length-requires : tie.Need-track-length-requires Inv-loop μ-loop
 track-length-requires c κs =
@@ -25,34 +25,24 @@ add-bytes c =
     let loop = c .before .before .loop in
     let lt = c .before .loop-test .taken in
     let sum = loop .inv .sum in
-    let front = tracks-fit (start .args .s .now) (start .args .b) (start .args .slots .now) (start .pre .0) (start .pre .1) (loop .track) (loop .inv .some) in
-    let one = track-fits (start .args .s .now) (start .args .b) (start .args .slots .now) (start .pre .0) (start .pre .1) (loop .track) lt in
+    let front = tracks-fit (start .pre .0) (start .pre .1) (loop .track) (loop .inv .some) in
+    let one = track-fits (start .pre .0) (start .pre .1) (loop .track) lt in
     let is = c .track-length .ensures in
     omega (arith, sum, front, one, is)
 
 add-track : tie.Need-add-track Inv-loop μ-loop
 add-track c =
-    let lt = c .before .loop-test .taken in
     let few = c .before .before .before .before .before .before .pre .0 .fits .fewTracks in
-    omega (arith, lt, few)
+    omega arith
 
 loop-less : tie.Need-loop-less Inv-loop μ-loop
-loop-less c =
-    let lt = c .before .loop-test .taken in
-    omega (arith, lt)
+loop-less c = omega arith
 
 loop-again : tie.Need-loop-again Inv-loop μ-loop
-loop-again c =
-    let start = c .before .before .before .before .before .before in
-    let loop = c .before .before .loop in
-    counted-more (start .args .s .now) (start .args .b) (loop .track) (loop .bytes) _ (loop .inv) (c .before .loop-test .taken) (c .track-length .ensures)
+loop-again c = counted-more (c .before .before .loop .inv) (c .before .loop-test .taken) (c .track-length .ensures)
 
 returns : tie.Need-returns Inv-loop μ-loop
-returns c =
-    let start = c .before .before .before .before .before in
-    let loop = c .before .loop in
-    let all = c .loop-test .left in
-    counted-all (start .args .s .now) (start .args .b) (loop .track) (loop .bytes) (loop .inv) (omega (arith, all))
+returns c = counted-all (c .before .loop .inv) (omega arith)
 
 pub tracks-length-spec : {M : Type 1} → statement M
 tracks-length-spec =

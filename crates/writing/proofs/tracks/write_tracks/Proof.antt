@@ -12,46 +12,30 @@ abbrev μ-loop : tie.MeasureT-loop
 μ-loop s b slots output₀ place count track₀ here₀ output track here = b .initials .count - track
 
 loop-holds : tie.Need-loop-holds Inv-loop μ-loop
-loop-holds c =
-    let start = c .before .before .before .before in
-    tracks-none (start .args .s .now) (start .args .b) (start .args .place) (start .args .output .now) (start .pre .1 .1)
+loop-holds c = tracks-none (c .before .before .before .before .pre .1 .1)
 
 write-track-requires : tie.Need-write-track-requires Inv-loop μ-loop
 write-track-requires c κs =
     let start = c .before .before .before .before .before .before .before in
-    let loop = c .before .before .loop in
     let lt = c .before .loop-test .taken in
-    (start .pre .0, (start .pre .1 .0, (lt, tracks-room (start .args .s .now) (start .args .b) (start .args .place) (start .args .output .now) (start .pre .1 .1) (loop .track) (loop .here) (loop .output) (loop .inv) lt)))
+    (start .pre .0, (start .pre .1 .0, (lt, tracks-room (start .pre .1 .1) (c .before .before .loop .inv) lt)))
 
 add-track : tie.Need-add-track Inv-loop μ-loop
 add-track c =
-    let lt = c .before .before .before .before .loop-test .taken in
     let few = c .before .before .before .before .before .before .before .before .before .before .pre .0 .fits .fewTracks in
-    omega (arith, lt, few)
+    omega arith
 
 loop-less : tie.Need-loop-less Inv-loop μ-loop
-loop-less c =
-    let lt = c .before .before .before .before .loop-test .taken in
-    omega (arith, lt)
+loop-less c = omega arith
 
 loop-again : tie.Need-loop-again Inv-loop μ-loop
-loop-again c =
-    let start = c .before .before .before .before .before .before .before .before .before .before in
-    let loop = c .before .before .before .before .before .loop in
-    tracks-more (start .args .s .now) (start .args .b) (start .args .place) (start .args .output .now) (start .pre .1 .1) (loop .track) (loop .here) (loop .output) (loop .inv) (c .before .before .before .before .loop-test .taken) _ _ (c .before .before .write-track .ensures)
+loop-again c = tracks-more (c .before .before .before .before .before .before .before .before .before .before .pre .1 .1) (c .before .before .before .before .before .loop .inv) (c .before .before .before .before .loop-test .taken) (c .before .before .write-track .ensures)
 
 same-length : tie.Need-same-length Inv-loop μ-loop
-same-length c =
-    let start = c .before .before .before .before .before .before in
-    let loop = c .before .loop in
-    tracks-length (start .args .s .now) (start .args .b) (start .args .place) (start .args .output .now) (start .pre .1 .1) (loop .track) (loop .here) (loop .output) (loop .inv)
+same-length c = tracks-length (c .before .before .before .before .before .before .pre .1 .1) (c .before .loop .inv)
 
 returns : tie.Need-returns Inv-loop μ-loop
-returns c =
-    let start = c .before .before .before .before .before .before in
-    let loop = c .before .loop in
-    let all = c .loop-test .left in
-    tracks-all (start .args .s .now) (start .args .b) (start .args .place) (start .args .output .now) (start .pre .1 .1) (loop .track) (loop .here) (loop .output) (loop .inv) (omega (arith, all))
+returns c = tracks-all (c .before .before .before .before .before .before .pre .1 .1) (c .before .loop .inv) (omega arith)
 
 pub write-tracks-spec : {M : Type 1} → statement M
 write-tracks-spec =

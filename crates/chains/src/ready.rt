@@ -22,7 +22,7 @@ pub enum Ready {
     Refused(Fault),
 }
 
-fn initial_key(s: &[u8], b: Block, track: usize) -> Met
+pub fn initial_key(s: &[u8], b: Block, track: usize) -> Met
     requires { ⌜ Fits (now s) b ⌝ }
     requires { ⌜ track < b .initials .count ⌝ }
     ensures { λ r. ⌜ metRead (kindOf (b .kind)) (b .initials .count) r ≡ keyMeets (now (s .entry)) (b .kind) track (links (now (s .entry)) b .initial track .frame) (links (now (s .entry)) b .initial track .body) false ⌝ }

@@ -14,7 +14,7 @@ use crate::key;
 use crate::ready;
 use crate::ready::Ready;
 
-fn record_key(s: &[u8], b: Block, track: usize, p: usize, repeated: bool) -> Met
+pub fn record_key(s: &[u8], b: Block, track: usize, p: usize, repeated: bool) -> Met
     requires { ⌜ Fits (now s) b ⌝ }
     requires { ⌜ p < b .records .count ⌝ }
     requires { ⌜ track < b .initials .count ⌝ }

@@ -4,3 +4,4 @@ pub mod Marking
 pub mod Following
 pub mod Passing
 pub mod Unreached
+pub mod RisingChains

@@ -2,3 +2,4 @@
 // left out. One piece of code serves bones and morphs.
 pub mod counts;
 pub mod mark;
+pub mod rising;

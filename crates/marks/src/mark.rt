@@ -15,7 +15,7 @@ use chains::block::Block;
 use chains::lookup;
 use chains::lookup::Found;
 
-fn clear(marks: &mut [u16])
+pub(crate) fn clear(marks: &mut [u16])
     ensures { λ _. ⌜ now (marks .exit) ≡ replicate (length (now (marks .entry))) 0 ⌝ }
 {
     let mut i = 0;

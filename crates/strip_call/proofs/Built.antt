@@ -1,10 +1,12 @@
 -- The build of one kind, from its parts. Assumes nothing.
 use Prim.Native.Nat.{ℕ, zero, suc, _≤_, _<_}
 use native.Mathlib.Omega.{arith}
+use mathlib.Core.Bool.{Bool, true, false, cond}
 use mathlib.Core.List.{List, [], _∷_}
 use mathlib.Core.Option.{Option, none, some}
 use mathlib.Core.Path.{_≡_, refl, sym, ap, _∙_, subst}
-use borrow.Author.Tests.{lt-ltb, le-ltb}
+use borrow.Author.Tests.{lt-ltb, le-ltb, ltb-true, ltb-false}
+use lib.Dec.{ltb}
 use lib.ListN.{length, length-append}
 use Rattle.layout.specs.Walk.{Refusal, Answer, answered, declined}
 use Rattle.clip.specs.Scan.{scan}
@@ -21,7 +23,8 @@ use Rattle.chains.specs.declared.fault.Fault.{Fault}
 use Rattle.chains.specs.declared.fault.Met.{Met}
 use Rattle.marks.specs.Marks.{countsOf}
 use Rattle.marks.specs.declared.counts.Counts.{Counts}
-use Rattle.strip_call.specs.Building.{kindMeets, Passed}
+use Rattle.strip_call.specs.Building.{kindMeets, Passed, Builds, reported}
+use Rattle.strip_call.specs.declared.answer.BuiltKind.{BuiltKind}
 
 module _ (s : List ℕ) (b : Block) where
   -- What a call that tells of refusals answers.
@@ -63,12 +66,12 @@ length-each zero f = refl
 length-each (suc n) f = let rest = length-each n f in let sum = length-append (each n f) (f n ∷ []) in omega (arith, rest, sum)
 
 module _ (s : List ℕ) (b : Block) (counts : Counts) (is : counts ≡ countsOf s b) (scans : scan (kindOf (b .kind)) (links s b) ≡ none) (passes : tracksMeet s b (b .initials .count) ≡ none) where
-  pub counted-left : 0 < counts .disconnected → kindMeets s b ≡ some (faultOf (kindOf (b .kind)) (b .initials .count) (Fault.Disconnected (counts .disconnected)))
+  counted-left : 0 < counts .disconnected → kindMeets s b ≡ some (faultOf (kindOf (b .kind)) (b .initials .count) (Fault.Disconnected (counts .disconnected)))
   counted-left more =
       let same : counts .disconnected ≡ disconnected (kindOf (b .kind)) (links s b) = ap (λ (c : Counts). c .disconnected) is in
       rw same (left-meets s b scans passes (subst (λ (n : ℕ). 0 < n) same more))
 
-  pub counted : (slots marks : List ℕ) → Ordered s b slots → marks ≡ each (b .records .count) (trackMark (kindOf (b .kind)) (links s b)) → counts .disconnected ≤ 0 → Passed s b slots marks (counts .reached) (counts .loose)
+  counted : (slots marks : List ℕ) → Ordered s b slots → marks ≡ each (b .records .count) (trackMark (kindOf (b .kind)) (links s b)) → counts .disconnected ≤ 0 → Passed s b slots marks (counts .reached) (counts .loose)
   counted slots marks ordered marked few =
       let same : counts .disconnected ≡ disconnected (kindOf (b .kind)) (links s b) = ap (λ (c : Counts). c .disconnected) is in
       record {
@@ -79,3 +82,10 @@ module _ (s : List ℕ) (b : Block) (counts : Counts) (is : counts ≡ countsOf 
         followed = ap (λ (c : Counts). c .reached) is;
         unreached = ap (λ (c : Counts). c .loose) is;
       }
+
+  pub reports : (slots marks : List ℕ) → Ordered s b slots → marks ≡ each (b .records .count) (trackMark (kindOf (b .kind)) (links s b)) → Builds s b slots marks (reported counts)
+  reports slots marks ordered marked = go (ltb 0 (counts .disconnected)) refl
+    where
+      go : (some : Bool) → ltb 0 (counts .disconnected) ≡ some → Builds s b slots marks (cond some (BuiltKind.Refused (Fault.Disconnected (counts .disconnected))) (BuiltKind.Counted (counts .reached) (counts .loose)))
+      go true e = counted-left (ltb-true 0 (counts .disconnected) e)
+      go false e = counted slots marks ordered marked (ltb-false 0 (counts .disconnected) e)

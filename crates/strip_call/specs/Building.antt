@@ -1,8 +1,10 @@
 -- What the private functions answer of one kind and of both. Definitions only.
 use Prim.Native.Nat.{ℕ, _+_}
+use mathlib.Core.Bool.{cond}
 use mathlib.Core.List.{List}
 use mathlib.Core.Option.{Option, none, some}
 use mathlib.Core.Path.{_≡_}
+use lib.Dec.{ltb}
 use Rattle.layout.specs.Walk.{Refusal}
 use Rattle.clip.specs.Build.{buildRefusal, linksFollowed, loose}
 use Rattle.strip.specs.Work.{each, trackMark}
@@ -11,6 +13,8 @@ use Rattle.chains.specs.Fault.{faultOf}
 use Rattle.chains.specs.Lookup.{Ordered}
 use Rattle.chains.specs.Tracks.{testAt, AllEnd}
 use Rattle.chains.specs.declared.block.Block.{Block}
+use Rattle.chains.specs.declared.fault.Fault.{Fault}
+use Rattle.marks.specs.declared.counts.Counts.{Counts}
 use Rattle.strip_call.specs.Parts.{part}
 use Rattle.strip_call.specs.declared.answer.BuiltKind.{BuiltKind}
 use Rattle.strip_call.specs.declared.answer.BuiltClip.{BuiltClip}
@@ -31,6 +35,10 @@ pub record Passed (s : List ℕ) (b : Block) (slots marks : List ℕ) (reached l
 abbrev pub Builds : List ℕ → Block → List ℕ → List ℕ → BuiltKind → Type 0
 Builds s b slots marks (BuiltKind.Refused fault) = kindMeets s b ≡ some (faultOf (kindOf (b .kind)) (b .initials .count) fault)
 Builds s b slots marks (BuiltKind.Counted reached looseOnes) = Passed s b slots marks reached looseOnes
+
+-- 15, or what an accepted build reports.
+abbrev pub reported : Counts → BuiltKind
+reported counts = cond (ltb 0 (counts .disconnected)) (BuiltKind.Refused (Fault.Disconnected (counts .disconnected))) (BuiltKind.Counted (counts .reached) (counts .loose))
 
 -- The counts of both kinds, and the parts of the work slices that belong to each.
 pub record ClipPassed (s : List ℕ) (bones morphs : Block) (first second : List ℕ) (reached looseOnes : ℕ) : Type 0 where

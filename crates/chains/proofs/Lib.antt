@@ -5,6 +5,7 @@ pub mod KeysAsked
 pub mod FirstRepeats
 pub mod ListedChain
 pub mod ChainFrames
+pub mod Again
 pub mod Meets
 pub mod Scanned
 pub mod RisingIndices

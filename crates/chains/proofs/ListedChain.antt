@@ -1,5 +1,5 @@
 -- The chain of a track at the front of a list, and listed again. Assumes nothing.
-use Prim.Native.Nat.{ℕ, zero, suc, _≤_, _<_}
+use Prim.Native.Nat.{ℕ, zero, suc, _+_, _≤_, _<_}
 use native.Mathlib.Omega.{arith}
 use mathlib.Core.List.{List, [], _∷_}
 use mathlib.Core.Path.{_≡_, sym, ap, _∙_, subst}
@@ -7,6 +7,7 @@ use lib.ListN.{length, take, getD, length-take}
 use lib.Seq.{getD-take, length-take-le, take-take, take-length}
 use Rattle.layout.specs.Walk.{answered}
 use Rattle.order.specs.Field.{AllBelow}
+use Rattle.order.specs.Repeat.{FirstRepeat}
 use Rattle.clip.specs.Chain.{chain}
 use Rattle.clip.specs.Build.{positions, chainOf}
 use Rattle.clip.proofs.Counting as Counting
@@ -15,8 +16,8 @@ use Rattle.clip.proofs.Follow.{answer-is, no-answer, is-chain}
 use Rattle.chains.specs.Block.{kindOf, links}
 use Rattle.chains.specs.Lookup.{Ordered}
 use Rattle.chains.specs.Walk.{walkedRead}
-use Rattle.chains.specs.Tracks.{Listed}
-use Rattle.chains.specs.Frames.{chainAt, Ends}
+use Rattle.chains.specs.Tracks.{Listed, framesOf}
+use Rattle.chains.specs.Frames.{chainAt, framesAt, Ends}
 use Rattle.chains.specs.declared.block.Block.{Block}
 use Rattle.chains.specs.declared.walk.Walked.{Walked}
 
@@ -29,20 +30,23 @@ module _ (s : List ℕ) (b : Block) where
   chained-below : (track link : ℕ) (ps : List ℕ) → Chained (links s b) track link ps → AllBelow (b .records .count) ps
   chained-below track link ps chained = below-place (b .records .count) ps (all-below (links s b) ps track link chained)
 
-  pub ends-again : (slots : List ℕ) (track places places′ : ℕ) → Ends s b slots track places → places′ ≡ places → Ends s b slots track places′
-  ends-again slots track places places′ x same = subst (λ n. Ends s b slots track n) (sym same) x
-
   module _ (track n : ℕ) (list : List ℕ) (listed : Listed s b track n list) where
-    pub listed-is : chainAt s b track ≡ take n list
+    listed-is : chainAt s b track ≡ take n list
     unfolding chainOf
     listed-is = ap positions listed
 
-    pub listed-ends : (slots : List ℕ) → Ordered s b slots → track < b .initials .count → b .records .count ≤ length list → Ends s b slots track (length list)
-    listed-ends slots ordered is-track room = record { ordered = ordered; is-track = is-track; room = room; ends = listed ∙ ap answered (sym listed-is) }
+    pub listed-part : (m : ℕ) → m ≡ n → take m list ≡ chainAt s b track
+    listed-part m all = ap (λ k. take k list) all ∙ sym listed-is
+
+    pub listed-ends : (slots : List ℕ) → Ordered s b slots → track < b .initials .count → Ends s b slots track
+    listed-ends slots ordered is-track = record { ordered = ordered; is-track = is-track; ends = listed ∙ ap answered (sym listed-is) }
 
     module _ (long : n ≤ length list) where
-      pub listed-many : n ≡ length (chainAt s b track)
+      listed-many : n ≡ length (chainAt s b track)
       listed-many = sym (ap length listed-is ∙ length-take-le n list long)
+
+      pub listed-first : (r : ℕ) → FirstRepeat (framesAt s b track) (length (chainAt s b track) + 1) r → FirstRepeat (framesOf (links s b) track (take n list)) (n + 1) r
+      listed-first r first = subst (λ m. FirstRepeat (framesOf (links s b) track (take n list)) (m + 1) r) (sym listed-many) (subst (λ (ps : List ℕ). FirstRepeat (framesOf (links s b) track ps) (length (chainAt s b track) + 1) r) listed-is first)
 
       pub listed-below : (i : ℕ) → i < n → getD list i 0 < b .records .count
       listed-below i lt =
@@ -53,8 +57,8 @@ module _ (s : List ℕ) (b : Block) where
       pub listed-same : (list′ : List ℕ) → take (length (chainAt s b track)) list′ ≡ chainAt s b track → take n list′ ≡ take n list
       listed-same list′ again = ap (λ m. take m list′) listed-many ∙ again ∙ listed-is
 
-  module _ (slots : List ℕ) (track places : ℕ) (x : Ends s b slots track places) where
-    chained : Chained (links s b) track (links s b .initial track .next) (chainAt s b track)
+  module _ (slots : List ℕ) (track : ℕ) (x : Ends s b slots track) where
+    pub chained : Chained (links s b) track (links s b .initial track .next) (chainAt s b track)
     chained = is-chain (kindOf (b .kind)) (links s b) track (chainAt s b track) (x .ends)
 
     pub chain-below : AllBelow (b .records .count) (chainAt s b track)
@@ -62,11 +66,6 @@ module _ (s : List ℕ) (b : Block) where
 
     pub chain-distinct : Counting.Distinct (chainAt s b track)
     chain-distinct = no-repeats (links s b) (x .ordered .indexed) track (x .is-track) (links s b .initial track .next) (chainAt s b track) chained
-
-    pub chain-short : length (chainAt s b track) ≤ places
-    chain-short =
-        let most = Counting.distinct-length (b .records .count) (chainAt s b track) chain-distinct (all-below (links s b) (chainAt s b track) track (links s b .initial track .next) chained) in
-        omega (arith, most, x .room)
 
     -- What the walk lists is the chain.
     pub walked-again : (list : List ℕ) (w : Walked) → walkedRead (kindOf (b .kind)) track list w ≡ chain (kindOf (b .kind)) (links s b) track → take (length (chainAt s b track)) list ≡ chainAt s b track

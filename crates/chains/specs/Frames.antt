@@ -1,12 +1,10 @@
 -- The frames of a track's keys, and which of them are repeated. Definitions only.
-use Prim.Native.Nat.{ℕ, _+_, _<_, _≤_}
-use mathlib.Core.Bool.{true, false}
+use Prim.Native.Nat.{ℕ, _<_, _≤_}
 use mathlib.Core.List.{List}
 use mathlib.Core.Path.{_≡_}
 use Rattle.layout.specs.Walk.{answered}
 use Rattle.clip.specs.Chain.{chain}
 use Rattle.clip.specs.Build.{chainOf}
-use Rattle.order.specs.Repeat.{Repeats}
 use Rattle.chains.specs.Block.{kindOf, links}
 use Rattle.chains.specs.Lookup.{Ordered}
 use Rattle.chains.specs.Tracks.{framesOf}
@@ -18,20 +16,13 @@ chainAt s b track = chainOf (kindOf (b .kind)) (links s b) track
 abbrev pub framesAt : List ℕ → Block → ℕ → ℕ → ℕ
 framesAt s b track = framesOf (links s b) track (chainAt s b track)
 
--- The chain of a track ends, and a list of so many places has room for it.
-pub record Ends (s : List ℕ) (b : Block) (slots : List ℕ) (track places : ℕ) : Type 0 where
+-- The chain of a track ends.
+pub record Ends (s : List ℕ) (b : Block) (slots : List ℕ) (track : ℕ) : Type 0 where
   pub ordered : Ordered s b slots
   pub is-track : track < b .initials .count
-  pub room : b .records .count ≤ places
   pub ends : chain (kindOf (b .kind)) (links s b) track ≡ answered (chainAt s b track)
 
 -- f 0, .., f r rise, of f 0, .., f n.
 pub record Rising (f : ℕ → ℕ) (n r : ℕ) : Type 0 where
   pub most : r ≤ n
   pub rises : (i j : ℕ) → i < j → j ≤ r → f i < f j
-
--- f 0, .., f low are all different, and two of f 0, .., f high are equal.
-pub record Between (f : ℕ → ℕ) (n low high : ℕ) : Type 0 where
-  pub most : high ≤ n
-  pub apart : Repeats f (low + 1) false
-  pub again : Repeats f (high + 1) true

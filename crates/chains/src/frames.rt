@@ -1,17 +1,19 @@
 // 11: the first key of a track whose frame an earlier key has. Key 0 is the initial record's, key i + 1 that of the record listed at i.
 ghost use mathlib.Core.Path.{_≡_};
-ghost use mathlib.Core.Bool.{false};
 ghost use Prim.Native.Nat.{_+_, _<_, _≤_};
 ghost use lib.ListN.{length, take};
-ghost use Rattle.order.specs.Repeat.{FirstRepeat, Repeats};
+ghost use Rattle.order.specs.Repeat.{FirstRepeat};
 ghost use Rattle.chains.specs.Block.{Fits, links};
 ghost use Rattle.chains.specs.Lookup.{Ordered};
 ghost use Rattle.chains.specs.Tracks.{Listed, framesOf};
-ghost use Rattle.chains.specs.Frames.{chainAt, framesAt, Ends, Rising, Between};
+ghost use Rattle.chains.specs.Frames.{chainAt, framesAt, Ends, Rising};
 use crate::block;
 use crate::block::Block;
+use crate::lookup;
+use crate::lookup::Found;
 use crate::walk;
 use order::field::Field;
+use order::met;
 use order::repeats;
 
 // The last key up to which frames rise.
@@ -37,83 +39,54 @@ fn rising(s: &[u8], b: Block, track: usize, list: &[u16], n: usize) -> usize
 
 // The chain at the front of the list, whatever the list held.
 fn list_again(s: &[u8], b: Block, slots: &[u16], track: usize, list: &mut [u16])
-    requires { ⌜ Ends (now s) b (now slots) track (length (now list)) ⌝ }
+    requires { ⌜ Ends (now s) b (now slots) track ⌝ }
+    requires { ⌜ b .records .count ≤ length (now list) ⌝ }
     ensures { λ _. ⌜ take (length (chainAt (now (s .entry)) b track)) (now (list .exit)) ≡ chainAt (now (s .entry)) b track ⌝ }
     ensures { λ _. ⌜ length (now (list .exit)) ≡ length (now (list .entry)) ⌝ }
 {
     walk::walk(s, b, slots, track, list);
 }
 
-// Whether two of keys 0 to `last` have equal frames. The list is in another order afterwards.
-fn repeated(s: &[u8], b: Block, slots: &[u16], track: usize, list: &mut [u16], last: usize) -> bool
-    requires { ⌜ Ends (now s) b (now slots) track (length (now list)) ⌝ }
-    requires { ⌜ last ≤ length (chainAt (now s) b track) ⌝ }
-    ensures { λ r. ⌜ Repeats (framesAt (now (s .entry)) b track) (last + 1) r ⌝ }
-    ensures { λ _. ⌜ length (now (list .exit)) ≡ length (now (list .entry)) ⌝ }
+// The first repeat, where the list holds the chain. Sorted by frame, the list tells whether there is one. Then the chain is followed again
+// by its links, which are all borne, since it ends, and each frame met is marked in the list.
+fn met_again(s: &[u8], b: Block, slots: &[u16], track: usize, list: &mut [u16]) -> usize
+    requires { ⌜ Ends (now s) b (now slots) track ⌝ }
+    requires { ⌜ now list ≡ chainAt (now s) b track ⌝ }
+    ensures { λ r. ⌜ FirstRepeat (framesAt (now (s .entry)) b track) (length (chainAt (now (s .entry)) b track) + 1) r ⌝ }
 {
-    list_again(s, b, slots, track, list);
     let first = block::first_frame(s, b, track);
     let frames = Field {
         first: b.records.first + 4,
         width: b.records.width,
         count: b.records.count,
     };
-    repeats::repeats(s, frames, &mut list[0..last], first)
-}
-
-// The first repeat, where keys 0 to `apart` have different frames and keys 0 to n have not.
-fn between(
-    s: &[u8],
-    b: Block,
-    slots: &[u16],
-    track: usize,
-    list: &mut [u16],
-    apart: usize,
-    n: usize,
-) -> usize
-    requires { ⌜ Ends (now s) b (now slots) track (length (now list)) ⌝ }
-    requires { ⌜ n ≤ length (chainAt (now s) b track) ⌝ }
-    requires { ⌜ Between (framesAt (now s) b track) n apart n ⌝ }
-    ensures { λ r. ⌜ FirstRepeat (framesAt (now (s .entry)) b track) (n + 1) r ⌝ }
-    ensures { λ _. ⌜ length (now (list .exit)) ≡ length (now (list .entry)) ⌝ }
-{
-    let mut low = apart;
-    let mut high = n;
-    while low + 1 < high {
-        let middle = low + (high - low) / 2;
-        if repeated(s, b, slots, track, list, middle) {
-            high = middle;
-        } else {
-            low = middle;
-        }
+    let n = list.len();
+    if !repeats::repeats(s, frames, list, first) {
+        return n + 1;
     }
-    high
-}
-
-// The first repeat, where keys 0 to `apart` have different frames.
-fn behind(
-    s: &[u8],
-    b: Block,
-    slots: &[u16],
-    track: usize,
-    list: &mut [u16],
-    apart: usize,
-    n: usize,
-) -> usize
-    requires { ⌜ Ends (now s) b (now slots) track (length (now list)) ⌝ }
-    requires { ⌜ n ≡ length (chainAt (now s) b track) ⌝ }
-    requires { ⌜ Repeats (framesAt (now s) b track) (apart + 1) false ⌝ }
-    ensures { λ r. ⌜ FirstRepeat (framesAt (now (s .entry)) b track) (n + 1) r ⌝ }
-    ensures { λ _. ⌜ length (now (list .exit)) ≡ length (now (list .entry)) ⌝ }
-{
-    if repeated(s, b, slots, track, list, n) {
-        return between(s, b, slots, track, list, apart, n);
+    let mut link = block::first_link(s, b, track);
+    let mut i = 0;
+    while i < n {
+        match lookup::lookup(s, b, slots, link) {
+            Found::Absent => return i,
+            Found::At(p) => {
+                let frame = block::frame_at(s, b, p);
+                if frame == first {
+                    return i + 1;
+                }
+                if met::meet(s, frames, list, frame) {
+                    return i + 1;
+                }
+                link = block::next_at(s, b, p);
+                i = i + 1;
+            }
+        }
     }
     n + 1
 }
 
-// The number of keys if no frame is repeated. Frames that rise cost one pass, others one sort of the list, and a repeated frame one more
-// for each halving. Sorting loses the chain, which is listed again before each use and at the end.
+// The number of keys if no frame is repeated. Frames that rise cost one pass, others one sort of the list, and a repeated frame a search in
+// it for each key. Sorting loses the chain, which is listed again at the end.
 pub fn first_repeated_frame(
     s: &[u8],
     b: Block,
@@ -135,7 +108,7 @@ pub fn first_repeated_frame(
     if apart == n {
         return n + 1;
     }
-    let again = behind(s, b, slots, track, list, apart, n);
+    let again = met_again(s, b, slots, track, &mut list[0..n]);
     list_again(s, b, slots, track, list);
     again
 }

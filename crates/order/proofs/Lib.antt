@@ -4,8 +4,12 @@ pub mod Building
 pub mod Counted
 pub mod Equals
 pub mod FirstOfAll
+pub mod FirstPlaces
+pub mod Halving
 pub mod Heaps
 pub mod Laws
+pub mod Marking
+pub mod Meeting
 pub mod Neighbours
 pub mod Risen
 pub mod Settling

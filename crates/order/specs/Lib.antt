@@ -3,3 +3,4 @@ pub mod Sorted
 pub mod Heap
 pub mod Find
 pub mod Repeat
+pub mod Met

@@ -3,6 +3,7 @@
 pub mod answer;
 pub mod field;
 mod heap;
+pub mod met;
 pub mod repeats;
 pub mod search;
 mod settle;

@@ -1,15 +1,13 @@
 -- `first_repeated_frame` meets its contract: the chain is back in the list where the list was sorted. Assumes nothing.
-use Prim.Native.Nat.{ℕ, _+_}
-use mathlib.Core.Bool.{false}
-use mathlib.Core.List.{List}
-use mathlib.Core.Path.{refl, sym, _∙_, subst}
+use Prim.Native.Nat.{_+_, _-_}
+use native.Mathlib.Omega.{arith}
+use mathlib.Core.Path.{refl, subst}
 use borrow.Author.Needs.{needs}
 use lib.ListN.{take}
-use Rattle.order.specs.Repeat.{FirstRepeat, Repeats}
 use Rattle.chains.specs.Block.{links}
 use Rattle.chains.specs.Tracks.{framesOf}
 use Rattle.chains.specs.Frames.{Rising}
-use Rattle.chains.proofs.ListedChain.{ends-again, listed-is, listed-ends, listed-many, listed-same}
+use Rattle.chains.proofs.ListedChain.{listed-part, listed-ends, listed-first, listed-same}
 use Rattle.chains.proofs.FirstRepeats.{none-repeated, rising-apart}
 use Rattle.chains.proofs.frames.first_repeated_frame.Statement.{statement}
 use Rattle.chains.proofs.frames.first_repeated_frame.Tie as tie
@@ -26,19 +24,28 @@ same-length c = search needs
 returns : tie.Need-returns
 returns c =
     let start = c .before .before .before .before .before .before in
-    let all = subst (λ r. Rising (framesOf (links (start .args .s .now) (start .args .b)) (start .args .track) (take (start .args .n) (start .args .list .now))) (start .args .n) r) (c .if1 .taken) (c .before .rising .ensures) in
-    (none-repeated (framesOf (links (start .args .s .now) (start .args .b)) (start .args .track) (take (start .args .n) (start .args .list .now))) (start .args .n + 1) (rising-apart (framesOf (links (start .args .s .now) (start .args .b)) (start .args .track) (take (start .args .n) (start .args .list .now))) (start .args .n) (start .args .n) all), (refl, refl))
+    let frames = framesOf (links (start .args .s .now) (start .args .b)) (start .args .track) (take (start .args .n) (start .args .list .now)) in
+    let all = subst (λ r. Rising frames (start .args .n) r) (c .if1 .taken) (c .before .rising .ensures) in
+    (none-repeated frames (start .args .n + 1) (rising-apart frames (start .args .n) (start .args .n) all), (refl, refl))
 
-behind-requires : tie.Need-behind-requires
-behind-requires c κs =
+sub-met-again : tie.Need-sub-met-again
+sub-met-again c = search needs
+
+part-met-again-start : tie.Need-part-met-again-start
+part-met-again-start c = search needs
+
+part-met-again-end : tie.Need-part-met-again-end
+part-met-again-end c = search needs
+
+met-again-requires : tie.Need-met-again-requires
+met-again-requires c κs =
     let start = c .before .before .before .before .before .before .before in
-    let is = listed-is (start .args .s .now) (start .args .b) (start .args .track) (start .args .n) (start .args .list .now) (start .pre .1 .1 .1 .0) in
-    (listed-ends (start .args .s .now) (start .args .b) (start .args .track) (start .args .n) (start .args .list .now) (start .pre .1 .1 .1 .0) (start .args .slots .now) (start .pre .0) (start .pre .1 .0) (start .pre .1 .1 .0), (listed-many (start .args .s .now) (start .args .b) (start .args .track) (start .args .n) (start .args .list .now) (start .pre .1 .1 .1 .0) (start .pre .1 .1 .1 .1), subst (λ (ps : List ℕ). Repeats (framesOf (links (start .args .s .now) (start .args .b)) (start .args .track) ps) (c .before .before .rising .result + 1) false) (sym is) (rising-apart (framesOf (links (start .args .s .now) (start .args .b)) (start .args .track) (take (start .args .n) (start .args .list .now))) (start .args .n) (c .before .before .rising .result) (c .before .before .rising .ensures))))
+    (listed-ends (start .args .s .now) (start .args .b) (start .args .track) (start .args .n) (start .args .list .now) (start .pre .1 .1 .1 .0) (start .args .slots .now) (start .pre .0) (start .pre .1 .0), listed-part (start .args .s .now) (start .args .b) (start .args .track) (start .args .n) (start .args .list .now) (start .pre .1 .1 .1 .0) (start .args .n - 0) (omega arith))
 
 list-again-requires : tie.Need-list-again-requires
 list-again-requires c κs =
     let start = c .before .before .before .before .before .before .before .before .before .before .before in
-    ends-again (start .args .s .now) (start .args .b) (start .args .slots .now) (start .args .track) _ _ (listed-ends (start .args .s .now) (start .args .b) (start .args .track) (start .args .n) (start .args .list .now) (start .pre .1 .1 .1 .0) (start .args .slots .now) (start .pre .0) (start .pre .1 .0) (start .pre .1 .1 .0)) (c .before .before .before .behind .ensures .1)
+    (listed-ends (start .args .s .now) (start .args .b) (start .args .track) (start .args .n) (start .args .list .now) (start .pre .1 .1 .1 .0) (start .args .slots .now) (start .pre .0) (start .pre .1 .0), search needs)
 
 same-length-2 : tie.Need-same-length-2
 same-length-2 c = search needs
@@ -47,8 +54,7 @@ returns-2 : tie.Need-returns-2
 returns-2 c =
     let start = c .before .before .before .before .before .before .before .before .before .before .before .before .before .before in
     let call = c .before .before .list-again in
-    let found = c .before .before .before .before .before .before .behind in
-    (subst (λ (ps : List ℕ). FirstRepeat (framesOf (links (start .args .s .now) (start .args .b)) (start .args .track) ps) (start .args .n + 1) (found .result)) (listed-is (start .args .s .now) (start .args .b) (start .args .track) (start .args .n) (start .args .list .now) (start .pre .1 .1 .1 .0)) (found .ensures .0), (listed-same (start .args .s .now) (start .args .b) (start .args .track) (start .args .n) (start .args .list .now) (start .pre .1 .1 .1 .0) (start .pre .1 .1 .1 .1) _ (call .ensures .0), call .ensures .1 ∙ found .ensures .1))
+    (listed-first (start .args .s .now) (start .args .b) (start .args .track) (start .args .n) (start .args .list .now) (start .pre .1 .1 .1 .0) (start .pre .1 .1 .1 .1) _ (c .before .before .before .before .before .before .met-again .ensures), (listed-same (start .args .s .now) (start .args .b) (start .args .track) (start .args .n) (start .args .list .now) (start .pre .1 .1 .1 .0) (start .pre .1 .1 .1 .1) _ (call .ensures .0), search needs))
 
 pub first-repeated-frame-spec : {M : Type 1} → statement M
 first-repeated-frame-spec =
@@ -58,7 +64,10 @@ first-repeated-frame-spec =
     add-result
     same-length
     returns
-    behind-requires
+    sub-met-again
+    part-met-again-start
+    part-met-again-end
+    met-again-requires
     list-again-requires
     same-length-2
     returns-2)

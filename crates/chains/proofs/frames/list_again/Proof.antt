@@ -13,7 +13,7 @@ same-length c = search needs
 returns : tie.Need-returns
 returns c =
     let start = c .before .before .before .before .before .before .before in
-    (walked-again (start .args .s .now) (start .args .b) (start .args .slots .now) (start .args .track) _ (start .pre) _ (c .before .before .walk .result) (c .before .before .walk .ensures .0), c .before .before .walk .ensures .1 .0)
+    (walked-again (start .args .s .now) (start .args .b) (start .args .slots .now) (start .args .track) (start .pre .0) _ (c .before .before .walk .result) (c .before .before .walk .ensures .0), c .before .before .walk .ensures .1 .0)
 
 pub list-again-spec : {M : Type 1} → statement M
 list-again-spec = tie.close (tie.spec walk-requires same-length returns)

@@ -40,7 +40,7 @@ returns c =
     let sort = find .before .before .before .before in
     let start = sort .before .before .before .before in (
       repeats-first _ _ (start .pre .0) _ _ (sort .sort .ensures) (start .pre .1 .0) (start .pre .1 .1) _ _ (find .find .ensures) _ (c .enum-told .given .1),
-      sort .sort .ensures .length,
+      sort .sort .ensures,
     )
 
 same-length-2 : tie.Need-same-length-2
@@ -54,7 +54,7 @@ returns-2 c =
     let sort = find .before .before .before .before in
     let start = sort .before .before .before .before in (
       repeats-told _ _ (start .pre .0) _ _ (sort .sort .ensures) (start .pre .1 .0) (start .pre .1 .1) _ _ (pass .least-behind .ensures) _ (find .find .ensures) (told .enum-told2 .given .1),
-      sort .sort .ensures .length,
+      sort .sort .ensures,
     )
 
 pub repeats-spec : {M : Type 1} → statement M

@@ -250,12 +250,14 @@ impl Shape {
 
 const ONE: u32 = 0x3f80_0000;
 const HALF: u32 = 0x3f00_0000;
+const QUARTER: u32 = 0x3e80_0000;
 const INFINITE: u32 = 0x7f80_0000;
 const PLAIN_CURVES: [u8; 16] = [20, 20, 107, 107, 20, 20, 107, 107, 20, 20, 107, 107, 20, 20, 107, 107];
 
-/// One key in four moves its bone, seven in eight turn it, one in two has curves of its own.
+/// One key in four moves its bone, seven in eight turn it, one in two has curves of its own. An orientation's first component is between a
+/// quarter and one, so that no square is subnormal.
 fn bone(prng: &Prng, finite: bool) -> Bone {
-    let turned = [prng.u32() >> 3, 0, HALF, HALF];
+    let turned = [QUARTER + (prng.u32() >> 8), 0, HALF, HALF];
     let moved = [ONE, prng.u32() >> 3, HALF];
     let translation = if prng.one_in(4) { moved } else { [0; 3] };
     Bone {

@@ -10,8 +10,9 @@ use lib.Dec.{ltb}
 use Rattle.records.specs.Curves.{curveAt, curvesAt}
 use Rattle.clip.specs.Section.{bytesAt}
 use Rattle.strip.specs.Plain.{clamped}
-use Rattle.keys.specs.Placed.{curveBytes}
+use Rattle.keys.specs.Placed.{Wrote, curveBytes}
 use Rattle.keys.specs.declared.plain.BonePlain.{BonePlain}
+use Rattle.keys.proofs.Placing.{wrote-none}
 
 both : (p q : Bool) → p && q ≡ true → (p ≡ true) × (q ≡ true)
 both true q e = (refl, e)
@@ -43,3 +44,7 @@ module _ (s : List ℕ) (at : ℕ) where
   pub curve-bytes : (p : BonePlain) → curveBytes p (curvesAt s at) ≡ cond (p .curves) [] (bytesAt s at 12) ++ cond (p .rotation) [] (bytesAt s (at + 12) 4)
   unfolding bytesAt
   curve-bytes p = simp (add-zero, add-assoc)
+
+-- Plain curves are not written.
+pub none-written : (p : BonePlain) (cs : List (List ℕ)) (place : ℕ) (old : List ℕ) → p .curves && p .rotation ≡ true → Wrote place (curveBytes p cs) old place old
+none-written p cs place old e = let plain = both (p .curves) (p .rotation) e in rw (plain .0, plain .1) (wrote-none place old)

@@ -71,6 +71,9 @@ fn write_curves(plain: BonePlain, s: &[u8], at: usize, output: &mut [u8], place:
     requires { ⌜ (at + 44 ≤ length (now s)) × Room place (curveBytes plain (map clamped (curvesAt (now s) at))) (now output) ⌝ }
     ensures { λ r. ⌜ Wrote place (curveBytes plain (map clamped (curvesAt (now (s .entry)) at))) (now (output .entry)) r (now (output .exit)) ⌝ }
 {
+    if plain.curves & plain.rotation {
+        return place;
+    }
     if curves::curves_in_range(s, at) {
         return fields::copy_curves(plain, s, at, output, place);
     }

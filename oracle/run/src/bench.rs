@@ -8,6 +8,7 @@ use calls::{Arguments, Call, Other, Slices};
 use generate::shapes::{ACCEPTED, Count, HOSTILE, Shape};
 use mmd_anim_format::pmm::build_pmm_document_model_clip;
 
+use crate::links::Links;
 use crate::timing::{medians, sum, sum_by_bytes};
 
 const SIZES: [usize; 6] = [100, 1_000, 10_000, 20_000, 30_000, 60_000];
@@ -125,7 +126,7 @@ impl Keys {
 
 fn strips(other: &impl Other, shapes: &[Shape], sizes: &[usize], only: &str) {
     println!(
-        "{:40}{:>7}{:>10}{:>4}{:>9}{:>8}{:>9}{:>10}{:>9}{:>9}{:>9}{:>7}{:>7}{:>8}{:>9}{:>10}{:>4}",
+        "{:40}{:>7}{:>10}{:>4}{:>9}{:>8}{:>9}{:>10}{:>9}{:>9}{:>9}{:>7}{:>7}{:>8}{:>9}{:>10}{:>7}{:>8}{:>4}",
         "shape",
         "n",
         "bytes",
@@ -142,10 +143,12 @@ fn strips(other: &impl Other, shapes: &[Shape], sizes: &[usize], only: &str) {
         "sum",
         "lib/sum",
         "lib/bytes",
+        "walk",
+        "n to 2n",
         "of"
     );
     for shape in shapes.iter().filter(|shape| shape.name.contains(only)) {
-        let mut earlier: Vec<(usize, f64, f64)> = Vec::new();
+        let mut earlier: Vec<(usize, f64, f64, f64)> = Vec::new();
         let most = (shape.tracks == Count::OneEach).then_some(&MOST_ADDITIONAL);
         for n in sizes.iter().chain(most) {
             let section = shape.section(*n);
@@ -155,7 +158,7 @@ fn strips(other: &impl Other, shapes: &[Shape], sizes: &[usize], only: &str) {
                 |now: f64, before: Option<f64>| before.map_or(String::new(), |before| format!("{:.2}", now / before));
             let each = row.keys as f64;
             println!(
-                "{:40}{n:>7}{:>10}{:>4}{:>9.1}{:>8}{:>9.1}{:>10.1}{:>9.1}{:>9}{:>9.1}{:>7.2}{:>7.2}{:>8.2}{:>9.1}{:>10.2}{:>4}",
+                "{:40}{n:>7}{:>10}{:>4}{:>9.1}{:>8}{:>9.1}{:>10.1}{:>9.1}{:>9}{:>9.1}{:>7.2}{:>7.2}{:>8.2}{:>9.1}{:>10.2}{:>7.1}{:>8}{:>4}",
                 shape.name,
                 section.len(),
                 row.status,
@@ -171,9 +174,11 @@ fn strips(other: &impl Other, shapes: &[Shape], sizes: &[usize], only: &str) {
                 row.sum / each,
                 row.library / row.sum,
                 row.library / row.by_bytes,
+                row.walk / each,
+                growth(row.walk, half.map(|half| half.3)),
                 row.rounds
             );
-            earlier.push((*n, row.library, row.clip));
+            earlier.push((*n, row.library, row.clip, row.walk));
         }
     }
 }
@@ -191,6 +196,8 @@ struct Row {
     writer: f64,
     sum: f64,
     by_bytes: f64,
+    /// One plain walk along the next links.
+    walk: f64,
     rounds: usize,
 }
 
@@ -198,7 +205,8 @@ fn row(other: &impl Other, shape: &Shape, section: &[u8]) -> Row {
     let (status, mut slices) = same(other, shape, section, Output::AsSection);
     let (_, mut least) = same(other, shape, section, Output::AsStrip);
     let work = |section: &[u8]| model::summary(black_box(section), 0).expect("read");
-    let ([library, exact, read, clip, writer, sum, by_bytes], rounds) = medians([
+    let links = Links::of(shape.morphs, section);
+    let ([library, exact, read, clip, writer, sum, by_bytes, walk], rounds) = medians([
         &mut || assert_eq!(other.strip(black_box(section), 0, &mut slices), status),
         &mut || assert_eq!(other.strip(black_box(section), 0, &mut least), status),
         &mut || drop(black_box(work(section))),
@@ -206,8 +214,21 @@ fn row(other: &impl Other, shape: &Shape, section: &[u8]) -> Row {
         &mut || drop(black_box(clip::build(&work(section)).map(|clip| strip::bytes(&clip)))),
         &mut || sum(section),
         &mut || sum_by_bytes(section),
+        &mut || links.walk(section),
     ]);
-    Row { status, keys: Keys::of(shape, section).all(), library, exact, read, clip, writer, sum, by_bytes, rounds }
+    Row {
+        status,
+        keys: Keys::of(shape, section).all(),
+        library,
+        exact,
+        read,
+        clip,
+        writer,
+        sum,
+        by_bytes,
+        walk,
+        rounds,
+    }
 }
 
 /// How long an output is lent.

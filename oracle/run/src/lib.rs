@@ -4,6 +4,7 @@ pub mod bench;
 pub mod clock;
 pub mod compare;
 pub mod expected;
+pub mod links;
 pub mod seeds;
 pub mod strip_cases;
 pub mod strip_vectors;

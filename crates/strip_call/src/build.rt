@@ -29,7 +29,7 @@ fn report(counts: Counts) -> BuiltKind
     }
 }
 
-// The tracks and 15, whatever they are.
+// The tracks in document 01's order, and 15.
 fn build_any(s: &[u8], b: Block, slots: &[u16], marks: &mut [u16]) -> BuiltKind
     requires { ⌜ Ordered (now s) b (now slots) ⌝ }
     requires { ⌜ scan (kindOf (b .kind)) (links (now s) b) ≡ none ⌝ }
@@ -43,7 +43,7 @@ fn build_any(s: &[u8], b: Block, slots: &[u16], marks: &mut [u16]) -> BuiltKind
     }
 }
 
-// The same, where the index scan has passed.
+// The tracks and 15, where the index scan has passed.
 fn build_tracks(s: &[u8], b: Block, slots: &[u16], marks: &mut [u16]) -> BuiltKind
     requires { ⌜ Ordered (now s) b (now slots) ⌝ }
     requires { ⌜ scan (kindOf (b .kind)) (links (now s) b) ≡ none ⌝ }

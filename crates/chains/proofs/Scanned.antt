@@ -1,5 +1,5 @@
 -- The index scan from two numbers: how many records in front are in range, and the first whose index an earlier one has. Assumes nothing.
-use Prim.Native.Nat.{ℕ, zero, suc, _+_, _≤_, _<_, _^_}
+use Prim.Native.Nat.{ℕ, _+_, _≤_, _<_, _^_}
 use native.Mathlib.Omega.{arith}
 use mathlib.Core.Bool.{Bool, true, false, cond}
 use mathlib.Core.List.{List, [], _∷_}
@@ -12,9 +12,8 @@ use lib.IntN.{pos}
 use Rattle.order.specs.Field.{numberOf}
 use Rattle.order.specs.Repeat.{FirstRepeat, upTo}
 use Rattle.order.specs.Sorted.{Sorted, times}
-use Rattle.order.proofs.Counted.{upTo-below, upTo-once, upTo-has}
+use Rattle.order.proofs.Counted.{upTo-below, upTo-once, upTo-has, upTo-none}
 use Rattle.order.proofs.Laws.{sorted-strictly}
-use Rattle.order.proofs.Times.{place-of}
 use Rattle.clip.specs.First.{first}
 use Rattle.clip.specs.Fields.{refusalOf, signed}
 use Rattle.clip.specs.Scan.{indexRefusal, scan}
@@ -27,17 +26,6 @@ use Rattle.chains.specs.Scan.{InRange}
 use Rattle.chains.specs.declared.block.Block.{Block}
 use Rattle.chains.proofs.ByIndex.{index-field, is-byIndex}
 use Rattle.chains.proofs.Meets.{first-met}
-
-not-counted : (n x : ℕ) → n ≤ x → times x (upTo n) ≡ 0
-not-counted n x high = go (times x (upTo n)) refl
-  where
-    go : (k : ℕ) → times x (upTo n) ≡ k → k ≡ 0
-    go zero e = refl
-    go (suc k) e =
-        let at = place-of x (upTo n) (omega (arith, e)) in
-        let below = upTo-below n n (omega arith) (at .place) (at .inside) in
-        let is = at .is in
-        absurd (omega (arith, below, is))
 
 module _ (s : List ℕ) (b : Block) where
   module _ (n : ℕ) (ranged : InRange s b n) (m : ℕ) (repeat : FirstRepeat (numberOf s (b .records)) (b .records .count) m) where
@@ -100,7 +88,7 @@ module _ (s : List ℕ) (b : Block) where
           let some = upTo-has (b .records .count) x (ltb-true x (b .records .count) e) in
           let most = upTo-once (b .records .count) x in
           rw e (omega (arith, some, most))
-      once x false e = rw e (not-counted (b .records .count) x (ltb-false x (b .records .count) e))
+      once x false e = rw e (upTo-none (b .records .count) x (ltb-false x (b .records .count) e))
 
 -- The records so far are in range.
 pub record Ranging (s : List ℕ) (b : Block) (p : ℕ) : Type 0 where

@@ -7,14 +7,15 @@ pub mod FirstOfAll
 pub mod FirstPlaces
 pub mod Halving
 pub mod Heaps
+pub mod InOrder
 pub mod Laws
 pub mod Marking
 pub mod Meeting
 pub mod Neighbours
 pub mod Risen
-pub mod Settling
 pub mod Sinks
 pub mod Swaps
 pub mod Taking
+pub mod Tally
 pub mod Times
 pub mod Unique

@@ -4,3 +4,4 @@ pub mod Heap
 pub mod Find
 pub mod Repeat
 pub mod Met
+pub mod Consecutive

@@ -31,10 +31,8 @@ module _ {s : List ℕ} {b : Block} {slots : List ℕ} {track : ℕ} (e : Ending
     pub measured-few : n ≤ 65534
     measured-few = let some = m .along .behind in let most = chain-most e in omega (arith, some, most)
 
-    pub measured-all : link ≡ 0 → (n ≡ length (chainAt s b track)) × (bytes ≡ length (recordsBytes s b (chainAt s b track)))
-    measured-all zero-link =
-        let all = ends e (m .along) zero-link in
-        (all, m .sum ∙ rw (all, take-length (chainAt s b track)))
+    pub measured-all : link ≡ 0 → bytes ≡ length (recordsBytes s b (chainAt s b track))
+    measured-all zero-link = m .sum ∙ rw (ends e (m .along) zero-link, take-length (chainAt s b track))
 
     module _ (on : link ≡ 0 → ⊥) {p : ℕ} (found : recordOf (links s b) link ≡ some p) {one : ℕ} (is : one ≡ length (recordBytes s b p)) where
       pub measured-fits : bytes + one ≤ 4000000

@@ -16,12 +16,6 @@ use chains::block::Block;
 use chains::lookup;
 use chains::lookup::Found;
 
-// How many records a chain has, and how many bytes their keys have.
-pub struct Measured {
-    pub records: usize,
-    pub bytes: usize,
-}
-
 // The record that bears a link.
 fn position(s: &[u8], b: Block, slots: &[u16], link: u32) -> usize
     requires { ⌜ Ordered (now s) b (now slots) ⌝ }
@@ -34,13 +28,13 @@ fn position(s: &[u8], b: Block, slots: &[u16], link: u32) -> usize
     }
 }
 
-// The chain of a track, without its initial record.
-pub fn measure(s: &[u8], b: Block, slots: &[u16], track: usize) -> Measured
+// How many bytes the keys of a track's chain have, its initial record's apart. The records passed are counted: the loop ends because a
+// chain has no more of them.
+pub fn measure(s: &[u8], b: Block, slots: &[u16], track: usize) -> usize
     requires { ⌜ Ordered (now s) b (now slots) ⌝ }
     requires { ⌜ AllEnd (now s) b ⌝ }
     requires { ⌜ track < b .initials .count ⌝ }
-    ensures { λ r. ⌜ r .records ≡ length (chainAt (now (s .entry)) b track) ⌝ }
-    ensures { λ r. ⌜ r .bytes ≡ length (recordsBytes (now (s .entry)) b (chainAt (now (s .entry)) b track)) ⌝ }
+    ensures { λ r. ⌜ r ≡ length (recordsBytes (now (s .entry)) b (chainAt (now (s .entry)) b track)) ⌝ }
 {
     let mut link = block::first_link(s, b, track);
     let mut records: usize = 0;
@@ -51,7 +45,7 @@ pub fn measure(s: &[u8], b: Block, slots: &[u16], track: usize) -> Measured
         records = records + 1;
         link = block::next_at(s, b, p);
     }
-    Measured { records, bytes }
+    bytes
 }
 
 // How many records were written, and where their keys end.

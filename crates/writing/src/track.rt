@@ -18,7 +18,7 @@ pub fn track_length(s: &[u8], b: Block, slots: &[u16], track: usize) -> usize
     ensures { λ r. ⌜ r ≡ length (stripTrack (now (s .entry)) b track) ⌝ }
 {
     let chain = chain::measure(s, b, slots, track);
-    2 + key::initial_length(s, b, track) + chain.bytes
+    2 + key::initial_length(s, b, track) + chain
 }
 
 pub fn write_track(

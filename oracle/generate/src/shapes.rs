@@ -132,6 +132,11 @@ pub const HOSTILE: [Shape; 18] = [
 ];
 
 impl Shape {
+    /// Records in file order, frames rising, nothing wrong.
+    pub fn as_mmd_writes(&self) -> bool {
+        self.file == File::InOrder && self.frames == Frames::Rising && self.fault == Fault::Nothing
+    }
+
     /// The section with so many additional records.
     pub fn section(&self, additional: usize) -> Vec<u8> {
         let prng = &Prng::new(1, 2, additional as u64);

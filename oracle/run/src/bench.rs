@@ -1,4 +1,4 @@
-//! The Rust and the library timed on the same sections in one run. Nothing is asserted of the time, but that both give the same answer.
+//! The Rust and the library timed on the same sections in one run. Both must give the same answer; nothing is asserted of the time.
 
 use std::hint::black_box;
 
@@ -9,39 +9,41 @@ use generate::shapes::{ACCEPTED, Count, HOSTILE, Shape};
 use mmd_anim_format::pmm::build_pmm_document_model_clip;
 
 use crate::links::Links;
+use crate::table::{figure, table, thousands};
 use crate::timing::{medians, sum, sum_by_bytes};
 
+/// Additional records. Besides the sizes shown there are those whose double is shown, for growth.
 const SIZES: [usize; 6] = [100, 1_000, 10_000, 20_000, 30_000, 60_000];
-/// Each is followed by its double.
-const GROWTH: [usize; 4] = [10_000, 20_000, 30_000, 60_000];
+const SHOWN: [usize; 4] = [100, 1_000, 10_000, 60_000];
+const HOSTILE_SIZES: [usize; 4] = [10_000, 20_000, 30_000, 60_000];
+const HOSTILE_SHOWN: [usize; 2] = [10_000, 60_000];
+/// Each is held against its half.
+const GROWTH: [usize; 2] = [20_000, 60_000];
 /// Document 01's limit of additional records; with one key in each track there are as many tracks as can be.
 const MOST_ADDITIONAL: usize = 65_534;
 /// As many numbers as any record's answer has, and as many bytes as its payload.
 const NUMBERS: usize = 64;
 const BYTES: usize = 64;
 
-/// `only` leaves out the shapes whose name does not have it.
+/// Tables in Markdown; `only` leaves out the shapes whose name does not have it.
 pub fn bench(other: &impl Other, only: &str) {
     println!(
         "Nanoseconds of processor time a key, where a key is an initial or additional record; medians of 3 to 11 rounds."
     );
+    let (mmd, orders): (Vec<Shape>, Vec<Shape>) = ACCEPTED.into_iter().partition(Shape::as_mmd_writes);
+    section_to_strip(other, "MMD's own order", &mmd, &SIZES, &SHOWN, only);
+    section_to_strip(other, "Other orders", &orders, &SIZES, &SHOWN, only);
+    section_to_strip(other, "Hostile shapes", &HOSTILE, &HOSTILE_SIZES, &HOSTILE_SHOWN, only);
+    most(other, only);
     reading(other, only);
-    println!("\nSection to strip, sections that are accepted");
-    strips(other, &ACCEPTED, &SIZES, only);
-    println!("\nSection to strip, hostile sections");
-    strips(other, &HOSTILE, &GROWTH, only);
 }
 
 /// The summary alone (for the whole section), every record by its number, and every record with its parts, beside the Rust's summary, which has all.
 fn reading(other: &impl Other, only: &str) {
-    println!("\nReading");
-    println!(
-        "{:40}{:>7}{:>10}{:>10}{:>10}{:>12}{:>10}{:>10}{:>10}{:>10}",
-        "shape", "n", "bytes", "summary", "records", "with parts", "Rust", "Rust/rec.", "sum", "by bytes"
-    );
     let shapes = ["1 track", "300 tracks, interleaved", "3000 tracks, interleaved", "morphs: 100 tracks, interleaved"];
+    let mut rows = Vec::new();
     for shape in ACCEPTED.iter().filter(|shape| shapes.contains(&shape.name) && shape.name.contains(only)) {
-        for n in [100, 1_000, 10_000, 60_000] {
+        for n in SHOWN {
             let section = shape.section(n);
             let keys = Keys::of(shape, &section);
             let mut values = [0; NUMBERS];
@@ -61,21 +63,12 @@ fn reading(other: &impl Other, only: &str) {
                 &mut || sum(&section),
                 &mut || sum_by_bytes(&section),
             ]);
-            let each = keys.all() as f64;
-            println!(
-                "{:40}{n:>7}{:>10}{:>10.0}{:>10.1}{:>12.1}{:>10.1}{:>10.2}{:>10.2}{:>10.1}",
-                shape.name,
-                section.len(),
-                summary,
-                records / each,
-                parts / each,
-                rust / each,
-                rust / records,
-                sum / each,
-                by_bytes / each
-            );
+            let mut row = vec![shape.name.to_string(), thousands(n), figure(summary)];
+            row.extend([records, parts, rust, sum, by_bytes].map(|time| figure(time / keys.all() as f64)));
+            rows.push(row);
         }
     }
+    table("Reading", &["shape", "additional", "summary", "record", "with parts", "Rust", "sum", "by bytes"], &rows);
 }
 
 /// The records of the one kind that a shape has.
@@ -124,63 +117,87 @@ impl Keys {
     }
 }
 
-fn strips(other: &impl Other, shapes: &[Shape], sizes: &[usize], only: &str) {
-    println!(
-        "{:40}{:>7}{:>10}{:>4}{:>9}{:>8}{:>9}{:>10}{:>9}{:>9}{:>9}{:>7}{:>7}{:>8}{:>9}{:>10}{:>7}{:>8}{:>4}",
-        "shape",
-        "n",
-        "bytes",
-        "no.",
-        "library",
-        "n to 2n",
-        "exact",
-        "Rust read",
-        "and clip",
-        "n to 2n",
-        "+ writer",
-        "R/lib",
-        "+w/lib",
-        "sum",
-        "lib/sum",
-        "lib/bytes",
-        "walk",
-        "n to 2n",
-        "of"
-    );
-    for shape in shapes.iter().filter(|shape| shape.name.contains(only)) {
-        let mut earlier: Vec<(usize, f64, f64, f64)> = Vec::new();
-        let most = (shape.tracks == Count::OneEach).then_some(&MOST_ADDITIONAL);
-        for n in sizes.iter().chain(most) {
-            let section = shape.section(*n);
-            let row = row(other, shape, &section);
-            let half = earlier.iter().find(|(size, ..)| 2 * size == *n);
-            let growth =
-                |now: f64, before: Option<f64>| before.map_or(String::new(), |before| format!("{:.2}", now / before));
-            let each = row.keys as f64;
-            println!(
-                "{:40}{n:>7}{:>10}{:>4}{:>9.1}{:>8}{:>9.1}{:>10.1}{:>9.1}{:>9}{:>9.1}{:>7.2}{:>7.2}{:>8.2}{:>9.1}{:>10.2}{:>7.1}{:>8}{:>4}",
-                shape.name,
-                section.len(),
-                row.status,
-                row.library / each,
-                growth(row.library, half.map(|half| half.1)),
-                row.exact / each,
-                row.read / each,
-                row.clip / each,
-                growth(row.clip, half.map(|half| half.2)),
-                row.writer / each,
-                row.clip / row.library,
-                row.writer / row.library,
-                row.sum / each,
-                row.library / row.sum,
-                row.library / row.by_bytes,
-                row.walk / each,
-                growth(row.walk, half.map(|half| half.3)),
-                row.rounds
-            );
-            earlier.push((*n, row.library, row.clip, row.walk));
-        }
+/// What was measured of one shape, by the number of additional records.
+struct Measured {
+    name: &'static str,
+    rows: Vec<(usize, Row)>,
+}
+
+impl Measured {
+    fn at(&self, n: usize) -> &Row {
+        &self.rows.iter().find(|(size, _)| *size == n).expect("measured").1
     }
+
+    /// How much more time it takes than with half as many records.
+    fn growth(&self, n: usize, time: impl Fn(&Row) -> f64) -> f64 {
+        time(self.at(n)) / time(self.at(n / 2))
+    }
+}
+
+fn section_to_strip(other: &impl Other, title: &str, shapes: &[Shape], sizes: &[usize], shown: &[usize], only: &str) {
+    let shapes = shapes.iter().filter(|shape| shape.name.contains(only));
+    let measured: Vec<Measured> = shapes
+        .map(|shape| {
+            eprintln!("{}", shape.name);
+            let rows = sizes.iter().map(|n| (*n, row(other, shape, &shape.section(*n)))).collect();
+            Measured { name: shape.name, rows }
+        })
+        .collect();
+    let last = shown[shown.len() - 1];
+    let heads = |word: &str| shown.iter().map(|n| format!("{word}{}", thousands(*n))).collect::<Vec<_>>();
+
+    let head = [
+        vec!["shape".into(), "answer".into()],
+        heads(""),
+        vec!["exact".into()],
+        heads("Rust "),
+        vec!["+ writer".into()],
+    ];
+    let rows = measured.iter().map(|shape| {
+        let mut row = vec![shape.name.to_string(), shape.at(last).status.to_string()];
+        row.extend(shown.iter().map(|n| figure(shape.at(*n).a_key(|row| row.library))));
+        row.push(figure(shape.at(last).a_key(|row| row.exact)));
+        row.extend(shown.iter().map(|n| figure(shape.at(*n).a_key(|row| row.clip))));
+        row.push(figure(shape.at(last).a_key(|row| row.writer)));
+        row
+    });
+    table(title, &head.concat(), &rows.collect::<Vec<_>>());
+
+    let growth = GROWTH.map(|n| format!("to {}", thousands(n)));
+    let walk = GROWTH.map(|n| format!("walk to {}", thousands(n)));
+    let head = [
+        vec!["shape".into()],
+        heads("R/L "),
+        heads("W/L "),
+        growth.to_vec(),
+        walk.to_vec(),
+        vec!["L/sum".into(), "L/by bytes".into()],
+    ];
+    let rows = measured.iter().map(|shape| {
+        let mut row = vec![shape.name.to_string()];
+        row.extend(shown.iter().map(|n| figure(shape.at(*n).clip / shape.at(*n).library)));
+        row.extend(shown.iter().map(|n| figure(shape.at(*n).writer / shape.at(*n).library)));
+        row.extend(GROWTH.map(|n| figure(shape.growth(n, |row| row.library))));
+        row.extend(GROWTH.map(|n| figure(shape.growth(n, |row| row.walk))));
+        row.push(figure(shape.at(last).library / shape.at(last).sum));
+        row.push(figure(shape.at(last).library / shape.at(last).by_bytes));
+        row
+    });
+    table(&format!("{title}: ratios"), &head.concat(), &rows.collect::<Vec<_>>());
+}
+
+/// As many tracks and additional records as the limits allow.
+fn most(other: &impl Other, only: &str) {
+    let shapes = HOSTILE.iter().filter(|shape| shape.tracks == Count::OneEach && shape.name.contains(only));
+    let rows = shapes.map(|shape| {
+        let row = row(other, shape, &shape.section(MOST_ADDITIONAL));
+        let times = [row.a_key(|row| row.library), row.a_key(|row| row.clip), row.a_key(|row| row.writer)];
+        let mut line = vec![shape.name.to_string()];
+        line.extend(times.map(figure));
+        line
+    });
+    let title = format!("{} additional records, {} tracks", thousands(MOST_ADDITIONAL), thousands(MOST_ADDITIONAL + 1));
+    table(&title, &["shape", "library", "Rust", "+ writer"], &rows.collect::<Vec<_>>());
 }
 
 /// Nanoseconds for the whole section.
@@ -190,15 +207,19 @@ struct Row {
     /// The strip call with an output as long as the section, and with one as long as the strip.
     library: f64,
     exact: f64,
-    /// The Rust's summary; with its clip; with the clip and the oracle's own writer.
-    read: f64,
+    /// The Rust's summary and clip; with the oracle's own writer.
     clip: f64,
     writer: f64,
     sum: f64,
     by_bytes: f64,
     /// One plain walk along the next links.
     walk: f64,
-    rounds: usize,
+}
+
+impl Row {
+    fn a_key(&self, time: impl Fn(&Row) -> f64) -> f64 {
+        time(self) / self.keys as f64
+    }
 }
 
 fn row(other: &impl Other, shape: &Shape, section: &[u8]) -> Row {
@@ -206,29 +227,16 @@ fn row(other: &impl Other, shape: &Shape, section: &[u8]) -> Row {
     let (_, mut least) = same(other, shape, section, Output::AsStrip);
     let work = |section: &[u8]| model::summary(black_box(section), 0).expect("read");
     let links = Links::of(shape.morphs, section);
-    let ([library, exact, read, clip, writer, sum, by_bytes, walk], rounds) = medians([
+    let ([library, exact, clip, writer, sum, by_bytes, walk], _) = medians([
         &mut || assert_eq!(other.strip(black_box(section), 0, &mut slices), status),
         &mut || assert_eq!(other.strip(black_box(section), 0, &mut least), status),
-        &mut || drop(black_box(work(section))),
         &mut || drop(black_box(build_pmm_document_model_clip(&work(section)))),
         &mut || drop(black_box(clip::build(&work(section)).map(|clip| strip::bytes(&clip)))),
         &mut || sum(section),
         &mut || sum_by_bytes(section),
         &mut || links.walk(section),
     ]);
-    Row {
-        status,
-        keys: Keys::of(shape, section).all(),
-        library,
-        exact,
-        read,
-        clip,
-        writer,
-        sum,
-        by_bytes,
-        walk,
-        rounds,
-    }
+    Row { status, keys: Keys::of(shape, section).all(), library, exact, clip, writer, sum, by_bytes, walk }
 }
 
 /// How long an output is lent.

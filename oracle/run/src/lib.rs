@@ -9,6 +9,7 @@ pub mod seeds;
 pub mod strip_cases;
 pub mod strip_vectors;
 pub mod strips;
+pub mod table;
 pub mod tally;
 pub mod timing;
 pub mod vector_file;

@@ -1,5 +1,4 @@
 pub mod Each
-pub mod Cleared
 pub mod Marking
 pub mod Following
 pub mod Passing

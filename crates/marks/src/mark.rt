@@ -14,16 +14,7 @@ use chains::block;
 use chains::block::Block;
 use chains::lookup;
 use chains::lookup::Found;
-
-pub(crate) fn clear(marks: &mut [u16])
-    ensures { λ _. ⌜ now (marks .exit) ≡ replicate (length (now (marks .entry))) 0 ⌝ }
-{
-    let mut i = 0;
-    while i < marks.len() {
-        marks[i] = 0;
-        i = i + 1;
-    }
-}
+use flags::bits;
 
 // The records of one chain, and how many there are.
 fn mark_chain(s: &[u8], b: Block, slots: &[u16], track: usize, marks: &mut [u16]) -> usize
@@ -75,7 +66,7 @@ pub fn mark(s: &[u8], b: Block, slots: &[u16], marks: &mut [u16]) -> Counts
     ensures { λ _. ⌜ now (marks .exit) ≡ each (b .records .count) (trackMark (kindOf (b .kind)) (links (now (s .entry)) b)) ⌝ }
     ensures { λ r. ⌜ r ≡ countsOf (now (s .entry)) b ⌝ }
 {
-    clear(marks);
+    bits::clear(marks);
     let reached = mark_tracks(s, b, slots, marks);
     counts::count(s, b, marks, reached)
 }

@@ -7,7 +7,6 @@ ghost use lib.ListN.{length, replicate};
 ghost use Rattle.chains.specs.Block.{Fits, links};
 ghost use Rattle.chains.specs.Lookup.{Ordered};
 ghost use Rattle.marks.specs.Rising.{Behind, ChainMarked, TracksMarked};
-use crate::mark;
 use chains::block;
 use chains::block::Block;
 use chains::fault::Met;
@@ -15,6 +14,7 @@ use chains::lookup;
 use chains::lookup::Found;
 use chains::ready;
 use chains::tracks;
+use flags::bits;
 
 // How many links were followed, if nothing else was found.
 pub enum Rising {
@@ -101,6 +101,6 @@ pub fn mark_rising(s: &[u8], b: Block, slots: &[u16], marks: &mut [u16]) -> Risi
     ensures { λ r. ⌜ TracksMarked (now (s .entry)) b (now (marks .exit)) r ⌝ }
     ensures { λ _. ⌜ length (now (marks .exit)) ≡ length (now (marks .entry)) ⌝ }
 {
-    mark::clear(marks);
+    bits::clear(marks);
     mark_tracks(s, b, slots, marks)
 }

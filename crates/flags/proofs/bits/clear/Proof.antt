@@ -1,25 +1,25 @@
--- `clear` meets its contract: the marks passed are 0. Assumes nothing.
-use Rattle.marks.proofs.Cleared.{Cleared, none-cleared, one-cleared, all-cleared}
+-- `clear` meets its contract: the places passed are 0. Assumes nothing.
+use Rattle.flags.proofs.Cleared.{Cleared, none-cleared, one-cleared, all-cleared}
 use lib.ListN.{length, length-set}
 use native.Mathlib.Omega.{arith}
 use Prim.Native.Nat.{_-_}
-use Rattle.marks.proofs.mark.clear.Statement.{statement}
-use Rattle.marks.proofs.mark.clear.Tie as tie
+use Rattle.flags.proofs.bits.clear.Statement.{statement}
+use Rattle.flags.proofs.bits.clear.Tie as tie
 
 abbrev Inv-loop : tie.InvT-loop
-Inv-loop marks₀ i₀ marks i = Cleared marks₀ marks i
+Inv-loop flags₀ i₀ flags i = Cleared flags₀ flags i
 
 abbrev μ-loop : tie.MeasureT-loop
-μ-loop marks₀ i₀ marks i = length marks - i
+μ-loop flags₀ i₀ flags i = length flags - i
 
 loop-holds : tie.Need-loop-holds Inv-loop μ-loop
 loop-holds c = none-cleared _
 
-mul-marks : tie.Need-mul-marks Inv-loop μ-loop
-mul-marks c = omega arith
+mul-flags : tie.Need-mul-flags Inv-loop μ-loop
+mul-flags c = omega arith
 
-slice-write-marks : tie.Need-slice-write-marks Inv-loop μ-loop
-slice-write-marks c = omega arith
+slice-write-flags : tie.Need-slice-write-flags Inv-loop μ-loop
+slice-write-flags c = omega arith
 
 add-i : tie.Need-add-i Inv-loop μ-loop
 add-i c = omega arith
@@ -43,8 +43,8 @@ clear-spec =
     Inv-loop
     μ-loop
     loop-holds
-    mul-marks
-    slice-write-marks
+    mul-flags
+    slice-write-flags
     add-i
     loop-less
     loop-again

@@ -14,6 +14,7 @@ use Rattle.order.specs.Repeat.{FirstRepeat, upTo}
 use Rattle.order.specs.Sorted.{Sorted, times}
 use Rattle.order.proofs.Counted.{upTo-below, upTo-once, upTo-has, upTo-none}
 use Rattle.order.proofs.Laws.{sorted-strictly}
+use Rattle.layout.specs.Walk.{Refusal}
 use Rattle.clip.specs.First.{first}
 use Rattle.clip.specs.Fields.{refusalOf, signed}
 use Rattle.clip.specs.Scan.{indexRefusal, scan}
@@ -89,6 +90,9 @@ module _ (s : List ℕ) (b : Block) where
           let most = upTo-once (b .records .count) x in
           rw e (omega (arith, some, most))
       once x false e = rw e (upTo-none (b .records .count) x (ltb-false x (b .records .count) e))
+
+  pub scan-refuses : (why : Refusal) → some why ≡ scan (kindOf (b .kind)) (links s b) → (slots : List ℕ) → scan (kindOf (b .kind)) (links s b) ≡ none → Ordered s b slots
+  scan-refuses why refused slots passes = absurd (let z : _≡_ {A = ℕ} 0 1 = cc in omega arith)
 
 -- The records so far are in range.
 pub record Ranging (s : List ℕ) (b : Block) (p : ℕ) : Type 0 where

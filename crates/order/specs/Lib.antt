@@ -5,3 +5,4 @@ pub mod Find
 pub mod Repeat
 pub mod Met
 pub mod Consecutive
+pub mod Close

@@ -1,11 +1,7 @@
--- `scan_any` meets its contract. Assumes nothing.
-use Rattle.chains.proofs.Scanned.{scan-repeated, scan-negative, scan-low, scan-passes, scan-orders}
+-- `scan_any` meets its contract: refused at the first record out of range or whose index is repeated, whichever comes first. Assumes nothing.
+use Rattle.chains.proofs.Scanned.{scan-repeated, scan-negative, scan-low, scan-passes, scan-refuses, scan-orders}
 use Rattle.chains.proofs.ByIndex.{index-field}
-use Rattle.order.proofs.Counted.{upTo-length}
-use Rattle.order.specs.Sorted.{Sorted}
-use Rattle.order.specs.Repeat.{FirstRepeat, upTo}
-use Rattle.order.specs.Field.{numberOf}
-use lib.ListN.{length}
+use Rattle.order.specs.Close.{Repeated}
 use mathlib.Core.Path.{sym, _∙_, subst}
 use Prim.Native.Nat.{ℕ}
 use native.Mathlib.Omega.{arith}
@@ -28,10 +24,7 @@ index-at-requires c κs =
     (c .before .before .before .before .before .before .before .before .pre .0, omega (arith, less, most))
 
 same-length : tie.Need-same-length
-same-length c =
-    let start = c .before .before .before .before .before .before .before .before .before in
-    let call = c .before .before .before .before .first-repeat in
-    call .ensures .1 .length ∙ upTo-length (length (start .args .slots .now))
+same-length c = c .before .before .before .before .first-repeat .ensures .length
 
 returns : tie.Need-returns
 returns c =
@@ -39,19 +32,16 @@ returns c =
     let s = start .args .s .now in
     let b = start .args .b in
     let call = c .before .before .before .before .first-repeat in
-    let repeat = subst (λ (n : ℕ). FirstRepeat (numberOf s (b .records)) n (call .result)) (start .pre .1) (call .ensures .0) in
-    let sorted = subst (λ (n : ℕ). Sorted s (b .records) (upTo n) (call .last .1 .1 .0)) (start .pre .1) (call .ensures .1) in
+    let told = subst (λ (n : ℕ). Repeated s (b .records) n (call .last .1 .1 .0) (call .result)) (start .pre .1) (call .ensures) in
     let passed = c .before .before .before .before .before .before .in-range in
-    (scan-repeated s b (passed .result) (passed .ensures) (call .result) repeat (c .before .if1 .taken) (c .index-at .result) (c .index-at .ensures), (scan-orders s b (start .pre .0) (call .last .1 .1 .0) sorted, sorted .length ∙ upTo-length (b .records .count) ∙ sym (start .pre .1)))
+    let refused = scan-repeated s b (passed .result) (passed .ensures) (call .result) (told .repeat) (c .before .if1 .taken) (c .index-at .result) (c .index-at .ensures) in
+    (refused, (scan-refuses s b _ refused _, call .ensures .length))
 
 index-at-requires-2 : tie.Need-index-at-requires-2
 index-at-requires-2 c κs = (c .before .before .before .before .before .before .before .before .before .before .pre .0, c .if2 .taken)
 
 same-length-2 : tie.Need-same-length-2
-same-length-2 c =
-    let start = c .before .before .before .before .before .before .before .before .before .before .before .before in
-    let call = c .before .before .before .before .before .before .before .first-repeat in
-    call .ensures .1 .length ∙ upTo-length (length (start .args .slots .now))
+same-length-2 c = c .before .before .before .before .before .before .before .first-repeat .ensures .length
 
 returns-2 : tie.Need-returns-2
 returns-2 c =
@@ -59,16 +49,13 @@ returns-2 c =
     let s = start .args .s .now in
     let b = start .args .b in
     let call = c .before .before .before .before .before .before .before .first-repeat in
-    let repeat = subst (λ (n : ℕ). FirstRepeat (numberOf s (b .records)) n (call .result)) (start .pre .1) (call .ensures .0) in
-    let sorted = subst (λ (n : ℕ). Sorted s (b .records) (upTo n) (call .last .1 .1 .0)) (start .pre .1) (call .ensures .1) in
+    let told = subst (λ (n : ℕ). Repeated s (b .records) n (call .last .1 .1 .0) (call .result)) (start .pre .1) (call .ensures) in
     let passed = c .before .before .before .before .before .before .before .before .before .in-range in
-    (scan-negative s b (passed .result) (passed .ensures) (call .result) repeat (c .before .before .before .before .if1 .left) (c .before .before .if2 .taken) (c .before .index-at2 .result) (c .before .index-at2 .ensures) (c .if3 .taken), (scan-orders s b (start .pre .0) (call .last .1 .1 .0) sorted, sorted .length ∙ upTo-length (b .records .count) ∙ sym (start .pre .1)))
+    let refused = scan-negative s b (passed .result) (passed .ensures) (call .result) (told .repeat) (c .before .before .before .before .if1 .left) (c .before .before .if2 .taken) (c .before .index-at2 .result) (c .before .index-at2 .ensures) (c .if3 .taken) in
+    (refused, (scan-refuses s b _ refused _, call .ensures .length))
 
 same-length-3 : tie.Need-same-length-3
-same-length-3 c =
-    let start = c .before .before .before .before .before .before .before .before .before .before .before .before in
-    let call = c .before .before .before .before .before .before .before .first-repeat in
-    call .ensures .1 .length ∙ upTo-length (length (start .args .slots .now))
+same-length-3 c = c .before .before .before .before .before .before .before .first-repeat .ensures .length
 
 returns-3 : tie.Need-returns-3
 returns-3 c =
@@ -76,16 +63,13 @@ returns-3 c =
     let s = start .args .s .now in
     let b = start .args .b in
     let call = c .before .before .before .before .before .before .before .first-repeat in
-    let repeat = subst (λ (n : ℕ). FirstRepeat (numberOf s (b .records)) n (call .result)) (start .pre .1) (call .ensures .0) in
-    let sorted = subst (λ (n : ℕ). Sorted s (b .records) (upTo n) (call .last .1 .1 .0)) (start .pre .1) (call .ensures .1) in
+    let told = subst (λ (n : ℕ). Repeated s (b .records) n (call .last .1 .1 .0) (call .result)) (start .pre .1) (call .ensures) in
     let passed = c .before .before .before .before .before .before .before .before .before .in-range in
-    (scan-low s b (passed .result) (passed .ensures) (call .result) repeat (c .before .before .before .before .if1 .left) (c .before .before .if2 .taken) (c .before .index-at2 .result) (c .before .index-at2 .ensures) (c .if3 .left), (scan-orders s b (start .pre .0) (call .last .1 .1 .0) sorted, sorted .length ∙ upTo-length (b .records .count) ∙ sym (start .pre .1)))
+    let refused = scan-low s b (passed .result) (passed .ensures) (call .result) (told .repeat) (c .before .before .before .before .if1 .left) (c .before .before .if2 .taken) (c .before .index-at2 .result) (c .before .index-at2 .ensures) (c .if3 .left) in
+    (refused, (scan-refuses s b _ refused _, call .ensures .length))
 
 same-length-4 : tie.Need-same-length-4
-same-length-4 c =
-    let start = c .before .before .before .before .before .before .before .before .before .before in
-    let call = c .before .before .before .before .before .first-repeat in
-    call .ensures .1 .length ∙ upTo-length (length (start .args .slots .now))
+same-length-4 c = c .before .before .before .before .before .first-repeat .ensures .length
 
 returns-4 : tie.Need-returns-4
 returns-4 c =
@@ -93,10 +77,11 @@ returns-4 c =
     let s = start .args .s .now in
     let b = start .args .b in
     let call = c .before .before .before .before .before .first-repeat in
-    let repeat = subst (λ (n : ℕ). FirstRepeat (numberOf s (b .records)) n (call .result)) (start .pre .1) (call .ensures .0) in
-    let sorted = subst (λ (n : ℕ). Sorted s (b .records) (upTo n) (call .last .1 .1 .0)) (start .pre .1) (call .ensures .1) in
+    let told = subst (λ (n : ℕ). Repeated s (b .records) n (call .last .1 .1 .0) (call .result)) (start .pre .1) (call .ensures) in
     let passed = c .before .before .before .before .before .before .before .in-range in
-    (scan-passes s b (passed .result) (passed .ensures) (call .result) repeat (c .before .before .if1 .left) (c .if2 .left), (scan-orders s b (start .pre .0) (call .last .1 .1 .0) sorted, sorted .length ∙ upTo-length (b .records .count) ∙ sym (start .pre .1)))
+    let more = c .before .before .if1 .left in
+    let all = c .if2 .left in
+    (scan-passes s b (passed .result) (passed .ensures) (call .result) (told .repeat) more all, (scan-orders s b (start .pre .0) _ (told .sorted (omega (arith, more, all))), call .ensures .length))
 
 pub scan-any-spec : {M : Type 1} → statement M
 scan-any-spec =

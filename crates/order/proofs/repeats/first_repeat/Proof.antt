@@ -1,15 +1,12 @@
--- `first_repeat` meets its contract: consecutive numbers have none, and of others what the pass over sorted neighbours finds is the first
--- repeat in file order. Assumes nothing.
+-- `first_repeat` meets its contract. Assumes nothing.
+use mathlib.Core.Path.{_∙_}
 use borrow.Author.Needs.{needs}
-use mathlib.Core.Path.{ap, _∙_}
-use lib.ListN.{length}
-use Rattle.order.specs.Repeat.{upTo}
-use Rattle.order.proofs.Counted.{upTo-length}
-use Rattle.order.proofs.InOrder.{as-many}
-use Rattle.order.proofs.Laws.{sorted-below}
-use Rattle.order.proofs.FirstOfAll.{filled-below, filled-sorted, first-repeat}
+use Rattle.order.proofs.FirstTold.{told-consecutive, told-met, told-sorted}
 use Rattle.order.proofs.repeats.first_repeat.Statement.{statement}
 use Rattle.order.proofs.repeats.first_repeat.Tie as tie
+
+least-number-requires : tie.Need-least-number-requires
+least-number-requires c κs = search needs
 
 put-in-order-requires : tie.Need-put-in-order-requires
 put-in-order-requires c κs = search needs
@@ -18,54 +15,45 @@ same-length : tie.Need-same-length
 same-length c = search needs
 
 returns : tie.Need-returns
-returns c =
-    let put = c .before .before .before .put-in-order in
-    let ordered = put .ensures .0 (c .if1 .taken) in
-    (as-many (put .ensures .1) (ordered .apart), ordered .sorted)
+returns c = let put = c .before .before .before .put-in-order in told-consecutive _ _ _ (put .ensures .0 (c .if1 .taken)) (put .ensures .1)
 
-fill-requires : tie.Need-fill-requires
-fill-requires c κs = search needs
+first-met-requires : tie.Need-first-met-requires
+first-met-requires c κs = search needs
 
-sort-requires : tie.Need-sort-requires
-sort-requires c κs =
-    let fill = c .before .before .before in
-    let put = fill .before .before .before .before .before in
-    let start = put .before .before .before .before in
-    (start .pre .0, filled-below _ _ (start .pre .0) _ (start .pre .1) _ (fill .fill .ensures ∙ ap upTo (put .put-in-order .ensures .1)))
+enum-known-p : tie.Need-enum-known-p
+enum-known-p c = search needs
 
-least-behind-requires : tie.Need-least-behind-requires
-least-behind-requires c κs =
-    let sort = c .before .before .before in
-    let fill = sort .before .before .before .before in
-    let put = fill .before .before .before .before .before in
-    let start = put .before .before .before .before in (
-      start .pre .0,
-      sorted-below _ _ _ _ (sort .sort .ensures) _ (filled-below _ _ (start .pre .0) _ (start .pre .1) _ (fill .fill .ensures ∙ ap upTo (put .put-in-order .ensures .1))),
-    )
+enum-told : tie.Need-enum-told
+enum-told c = search needs
+
+first-sorted-requires : tie.Need-first-sorted-requires
+first-sorted-requires c κs = search needs
 
 same-length-2 : tie.Need-same-length-2
-same-length-2 c = c .before .before .before .before .sort .ensures .length ∙ ap length (c .before .before .before .before .before .before .before .before .fill .ensures) ∙ upTo-length _ ∙ c .before .before .before .before .before .before .before .before .before .before .before .before .before .put-in-order .ensures .1
+same-length-2 c = search needs
 
 returns-2 : tie.Need-returns-2
-returns-2 c =
-    let sort = c .before .before .before .before in
-    let fill = sort .before .before .before .before in
-    let put = fill .before .before .before .before .before in
-    let start = put .before .before .before .before in
-    let filled = fill .fill .ensures ∙ ap upTo (put .put-in-order .ensures .1) in (
-      first-repeat _ _ (start .pre .0) _ (start .pre .1) _ filled _ (sort .sort .ensures) _ (c .least-behind .ensures),
-      filled-sorted _ _ (start .pre .0) _ (start .pre .1) _ filled _ (sort .sort .ensures),
-    )
+returns-2 c = let met = c .before .before .before .before .before .first-met in told-met _ _ _ (c .before .before .before .before .before .before .before .before .before .before .put-in-order .ensures .1) _ (met .ensures .0) (c .before .p .given .1) (met .ensures .1)
+
+same-length-3 : tie.Need-same-length-3
+same-length-3 c = search needs
+
+returns-3 : tie.Need-returns-3
+returns-3 c = let sorted = c .before .before .first-sorted in told-sorted _ _ _ (c .before .before .before .before .before .before .before .before .first-met .ensures .1 ∙ c .before .before .before .before .before .before .before .before .before .before .before .before .before .put-in-order .ensures .1) (sorted .ensures .0) (sorted .ensures .1)
 
 pub first-repeat-spec : {M : Type 1} → statement M
 first-repeat-spec =
     tie.close
     (tie.spec
+    least-number-requires
     put-in-order-requires
     same-length
     returns
-    fill-requires
-    sort-requires
-    least-behind-requires
+    first-met-requires
+    enum-known-p
+    enum-told
+    first-sorted-requires
     same-length-2
-    returns-2)
+    returns-2
+    same-length-3
+    returns-3)

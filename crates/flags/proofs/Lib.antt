@@ -1,3 +1,4 @@
 pub mod Digits
 pub mod Cleared
 pub mod Raising
+pub mod Meeting

@@ -5,7 +5,9 @@ pub mod KeysAsked
 pub mod FirstRepeats
 pub mod ListedChain
 pub mod ChainFrames
+pub mod Followed
 pub mod Again
+pub mod CloseFrames
 pub mod Meets
 pub mod Scanned
 pub mod RisingIndices

@@ -6,3 +6,4 @@ pub mod Tracks
 pub mod Ready
 pub mod Scan
 pub mod Frames
+pub mod Close

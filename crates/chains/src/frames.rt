@@ -9,6 +9,7 @@ ghost use Rattle.chains.specs.Tracks.{Listed, framesOf};
 ghost use Rattle.chains.specs.Frames.{chainAt, framesAt, Ends, Rising};
 use crate::block;
 use crate::block::Block;
+use crate::close;
 use crate::lookup;
 use crate::lookup::Found;
 use crate::walk;
@@ -85,8 +86,21 @@ fn met_again(s: &[u8], b: Block, slots: &[u16], track: usize, list: &mut [u16]) 
     n + 1
 }
 
-// The number of keys if no frame is repeated. Frames that rise cost one pass, others one sort of the list, and a repeated frame a search in
-// it for each key. Sorting loses the chain, which is listed again at the end.
+// The first repeat, where the list holds the chain.
+fn in_any_order(s: &[u8], b: Block, slots: &[u16], track: usize, list: &mut [u16]) -> usize
+    requires { ⌜ Ends (now s) b (now slots) track ⌝ }
+    requires { ⌜ now list ≡ chainAt (now s) b track ⌝ }
+    ensures { λ r. ⌜ FirstRepeat (framesAt (now (s .entry)) b track) (length (chainAt (now (s .entry)) b track) + 1) r ⌝ }
+{
+    let span = close::key_span(s, b, track, list);
+    if close::enough_flags(span, list.len()) {
+        return close::flagged_again(s, b, slots, track, span, list);
+    }
+    met_again(s, b, slots, track, list)
+}
+
+// The number of keys if no frame is repeated. Frames that rise cost one pass. Others that lie close together cost a flag for each key; any
+// others one sort of the list, and if one is repeated, a search in it for each key. Both lose the chain, which is listed again at the end.
 pub fn first_repeated_frame(
     s: &[u8],
     b: Block,
@@ -108,7 +122,7 @@ pub fn first_repeated_frame(
     if apart == n {
         return n + 1;
     }
-    let again = met_again(s, b, slots, track, &mut list[0..n]);
+    let again = in_any_order(s, b, slots, track, &mut list[0..n]);
     list_again(s, b, slots, track, list);
     again
 }

@@ -1,4 +1,4 @@
--- `first_repeated_frame` meets its contract: the chain is back in the list where the list was sorted. Assumes nothing.
+-- `first_repeated_frame` meets its contract: the chain is back in the list where the list was used otherwise. Assumes nothing.
 use Prim.Native.Nat.{_+_, _-_}
 use native.Mathlib.Omega.{arith}
 use mathlib.Core.Path.{refl, subst}
@@ -28,17 +28,17 @@ returns c =
     let all = subst (λ r. Rising frames (start .args .n) r) (c .if1 .taken) (c .before .rising .ensures) in
     (none-repeated frames (start .args .n + 1) (rising-apart frames (start .args .n) (start .args .n) all), (refl, refl))
 
-sub-met-again : tie.Need-sub-met-again
-sub-met-again c = search needs
+sub-in-any-order : tie.Need-sub-in-any-order
+sub-in-any-order c = search needs
 
-part-met-again-start : tie.Need-part-met-again-start
-part-met-again-start c = search needs
+part-in-any-order-start : tie.Need-part-in-any-order-start
+part-in-any-order-start c = search needs
 
-part-met-again-end : tie.Need-part-met-again-end
-part-met-again-end c = search needs
+part-in-any-order-end : tie.Need-part-in-any-order-end
+part-in-any-order-end c = search needs
 
-met-again-requires : tie.Need-met-again-requires
-met-again-requires c κs =
+in-any-order-requires : tie.Need-in-any-order-requires
+in-any-order-requires c κs =
     let start = c .before .before .before .before .before .before .before in
     (listed-ends (start .args .s .now) (start .args .b) (start .args .track) (start .args .n) (start .args .list .now) (start .pre .1 .1 .1 .0) (start .args .slots .now) (start .pre .0) (start .pre .1 .0), listed-part (start .args .s .now) (start .args .b) (start .args .track) (start .args .n) (start .args .list .now) (start .pre .1 .1 .1 .0) (start .args .n - 0) (omega arith))
 
@@ -54,7 +54,7 @@ returns-2 : tie.Need-returns-2
 returns-2 c =
     let start = c .before .before .before .before .before .before .before .before .before .before .before .before .before .before in
     let call = c .before .before .list-again in
-    (listed-first (start .args .s .now) (start .args .b) (start .args .track) (start .args .n) (start .args .list .now) (start .pre .1 .1 .1 .0) (start .pre .1 .1 .1 .1) _ (c .before .before .before .before .before .before .met-again .ensures), (listed-same (start .args .s .now) (start .args .b) (start .args .track) (start .args .n) (start .args .list .now) (start .pre .1 .1 .1 .0) (start .pre .1 .1 .1 .1) _ (call .ensures .0), search needs))
+    (listed-first (start .args .s .now) (start .args .b) (start .args .track) (start .args .n) (start .args .list .now) (start .pre .1 .1 .1 .0) (start .pre .1 .1 .1 .1) _ (c .before .before .before .before .before .before .in-any-order .ensures), (listed-same (start .args .s .now) (start .args .b) (start .args .track) (start .args .n) (start .args .list .now) (start .pre .1 .1 .1 .0) (start .pre .1 .1 .1 .1) _ (call .ensures .0), search needs))
 
 pub first-repeated-frame-spec : {M : Type 1} → statement M
 first-repeated-frame-spec =
@@ -64,10 +64,10 @@ first-repeated-frame-spec =
     add-result
     same-length
     returns
-    sub-met-again
-    part-met-again-start
-    part-met-again-end
-    met-again-requires
+    sub-in-any-order
+    part-in-any-order-start
+    part-in-any-order-end
+    in-any-order-requires
     list-again-requires
     same-length-2
     returns-2)

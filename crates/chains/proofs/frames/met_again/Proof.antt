@@ -1,9 +1,11 @@
 -- `met_again` meets its contract: the frames of the keys passed are different, and marked in the list. Assumes nothing.
 use Prim.Native.Nat.{_-_}
 use native.Mathlib.Omega.{arith}
-use mathlib.Core.Path.{_∙_}
+use mathlib.Core.Path.{_∙_, ap}
 use borrow.Author.Needs.{needs}
-use Rattle.chains.proofs.Again.{Again, again-starts, again-rise, again-long, again-none, again-absent, again-below, again-first, again-met, again-more}
+use lib.ListN.{length}
+use Rattle.chains.proofs.Followed.{follow-none, follow-absent, follow-below}
+use Rattle.chains.proofs.Again.{Again, again-starts, again-rise, again-long, again-first, again-met, again-more}
 use Rattle.chains.proofs.ChainFrames.{frame-field, held-below, held-once, held-apart}
 use Rattle.chains.proofs.frames.met_again.Statement.{statement}
 use Rattle.chains.proofs.frames.met_again.Tie as tie
@@ -65,7 +67,7 @@ returns-2 c =
     let head = c .before .before .before .before in
     let sort = head .before .before .before .before .before in
     let start = sort .before .before .before .before .before .before .before in
-    again-absent (start .pre .0) (start .pre .1) (sort .repeats .ensures .1) (head .loop .inv) (c .before .before .before .loop-test .taken) _ (c .before .before .lookup .ensures) (c .enum-told .given .1)
+    follow-absent (start .pre .0) (ap length (start .pre .1)) (head .loop .inv .followed) (c .before .before .before .loop-test .taken) _ (c .before .before .lookup .ensures) (c .enum-told .given .1)
 
 enum-known-p : tie.Need-enum-known-p Inv-loop μ-loop
 enum-known-p c = search needs
@@ -75,7 +77,7 @@ frame-at-requires c κs =
     let head = c .before .before .before .before .before in
     let sort = head .before .before .before .before .before in
     let start = sort .before .before .before .before .before .before .before in
-    (start .pre .0 .ordered .fits, again-below (start .pre .0) (start .pre .1) (sort .repeats .ensures .1) (head .loop .inv) (c .before .before .before .before .loop-test .taken) _ (c .before .before .before .lookup .ensures) (c .before .p .given .1))
+    (start .pre .0 .ordered .fits, follow-below (start .pre .0) (ap length (start .pre .1)) (head .loop .inv .followed) (c .before .before .before .before .loop-test .taken) _ (c .before .before .before .lookup .ensures) (c .before .p .given .1))
 
 add-result-2 : tie.Need-add-result-2 Inv-loop μ-loop
 add-result-2 c = omega (arith, c .before .before .before .before .before .before .loop-test .taken, c .before .before .before .before .before .before .before .before .before .before .before .before .before .before .before .before .before .before .before .good)
@@ -123,7 +125,7 @@ next-at-requires c κs =
     let head = c .before .before .before .before .before .before .before .before .before .before .before .before in
     let sort = head .before .before .before .before .before in
     let start = sort .before .before .before .before .before .before .before in
-    (start .pre .0 .ordered .fits, again-below (start .pre .0) (start .pre .1) (sort .repeats .ensures .1) (head .loop .inv) (c .before .before .before .before .before .before .before .before .before .before .before .loop-test .taken) _ (c .before .before .before .before .before .before .before .before .before .before .lookup .ensures) (c .before .before .before .before .before .before .before .before .p .given .1))
+    (start .pre .0 .ordered .fits, follow-below (start .pre .0) (ap length (start .pre .1)) (head .loop .inv .followed) (c .before .before .before .before .before .before .before .before .before .before .before .loop-test .taken) _ (c .before .before .before .before .before .before .before .before .before .before .lookup .ensures) (c .before .before .before .before .before .before .before .before .p .given .1))
 
 add-i : tie.Need-add-i Inv-loop μ-loop
 add-i c = omega (arith, c .before .before .before .before .before .before .before .before .before .before .before .before .loop-test .taken, c .before .before .before .before .before .before .before .before .before .before .before .before .before .before .before .before .before .before .before .before .before .before .before .before .before .good)
@@ -153,7 +155,7 @@ returns-5 c =
     let head = c .before in
     let sort = head .before .before .before .before .before in
     let start = sort .before .before .before .before .before .before .before in
-    again-none (start .pre .0) (start .pre .1) (sort .repeats .ensures .1) (head .loop .inv) (c .loop-test .left)
+    follow-none (start .pre .0) (ap length (start .pre .1)) (head .loop .inv .followed) (c .loop-test .left)
 
 pub met-again-spec : {M : Type 1} → statement M
 met-again-spec =

@@ -11,7 +11,7 @@ pub enum Count {
     OneEach,
 }
 
-/// Which records a track's chain goes through. The index of a record is the count plus its position.
+/// Which records a track's chain goes through.
 #[derive(Debug, Clone, Copy, PartialEq, Eq)]
 pub enum Chains {
     Consecutive,
@@ -23,6 +23,8 @@ pub enum Frames {
     Rising,
     Falling,
     Scattered,
+    /// Scattered over all frames that there can be.
+    FarApart,
     Equal,
     /// The last key has the first one's frame.
     FallingThenFirst,
@@ -64,6 +66,8 @@ pub struct Shape {
     pub morphs: bool,
     pub tracks: Count,
     pub chains: Chains,
+    /// The distance from one index to the next, the first being the count.
+    pub gap: usize,
     pub frames: Frames,
     pub file: File,
     pub fault: Fault,
@@ -75,19 +79,25 @@ const MMD: Shape = Shape {
     morphs: false,
     tracks: Count::Exactly(1),
     chains: Chains::Consecutive,
+    gap: 1,
     frames: Frames::Rising,
     file: File::InOrder,
     fault: Fault::Nothing,
 };
+/// With as many additional records as there can be, the last index is just below 2^31.
+const FAR: usize = 32_767;
 const TRACKS_300: Shape = Shape { tracks: Count::Exactly(300), chains: Chains::Interleaved, ..MMD };
 const TRACKS_3000: Shape = Shape { tracks: Count::Exactly(3_000), chains: Chains::Interleaved, ..MMD };
 
 /// Sections that are accepted.
-pub const ACCEPTED: [Shape; 12] = [
+pub const ACCEPTED: [Shape; 15] = [
     MMD,
     Shape { name: "1 track, scattered frames", frames: Frames::Scattered, ..MMD },
     Shape { name: "1 track, shuffled", file: File::Shuffled, ..MMD },
     Shape { name: "1 track, shuffled, scattered frames", file: File::Shuffled, frames: Frames::Scattered, ..MMD },
+    Shape { name: "1 track, frames far apart", frames: Frames::FarApart, ..MMD },
+    Shape { name: "1 track, indices far apart", gap: FAR, ..MMD },
+    Shape { name: "1 track, shuffled, indices far apart", gap: FAR, file: File::Shuffled, ..MMD },
     Shape { name: "300 tracks, consecutive", chains: Chains::Consecutive, ..TRACKS_300 },
     Shape { name: "300 tracks, interleaved", ..TRACKS_300 },
     Shape { name: "300 tracks, shuffled", file: File::Shuffled, ..TRACKS_300 },
@@ -132,9 +142,9 @@ pub const HOSTILE: [Shape; 18] = [
 ];
 
 impl Shape {
-    /// Records in file order, frames rising, nothing wrong.
+    /// Records in file order with consecutive indices, frames rising, nothing wrong.
     pub fn as_mmd_writes(&self) -> bool {
-        self.file == File::InOrder && self.frames == Frames::Rising && self.fault == Fault::Nothing
+        self.gap == 1 && self.file == File::InOrder && self.frames == Frames::Rising && self.fault == Fault::Nothing
     }
 
     /// The section with so many additional records.
@@ -187,7 +197,7 @@ impl Shape {
             };
             keys[track].push(position);
         }
-        let index = |position: usize| (tracks + position) as i32;
+        let index = |position: usize| (tracks + self.gap * position) as i32;
         let linked = !matches!(self.fault, Fault::NoneReached | Fault::AllLoose);
         let mut initial = Vec::new();
         let mut records: Vec<Option<Record<P>>> = (0..additional).map(|_| None).collect();
@@ -243,6 +253,10 @@ impl Shape {
             Frames::Rising => (),
             Frames::Falling | Frames::FallingThenFirst => frames.reverse(),
             Frames::Scattered => prng.shuffle(&mut frames),
+            Frames::FarApart => {
+                prng.shuffle(&mut frames);
+                frames.iter_mut().for_each(|frame| *frame *= i32::MAX / (3 * keys as i32));
+            }
             Frames::Equal => frames.fill(0),
             Frames::RisingThenFirst => (),
         }

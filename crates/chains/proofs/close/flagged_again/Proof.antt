@@ -25,7 +25,8 @@ first-frame-requires c κs =
 meet-requires : tie.Need-meet-requires Inv-loop μ-loop
 meet-requires c κs =
     let start = c .before .before .before .before .before .before .before .before .before in
-    first-spanned (start .pre .0) (start .pre .1 .0) (start .pre .1 .1 .0) (c .before .first-frame .ensures) (c .before .before .before .before .clear .ensures) (start .pre .1 .1 .1)
+    let has = first-spanned (start .pre .0) (start .pre .1 .0) (start .pre .1 .1 .0) (c .before .first-frame .ensures) (c .before .before .before .before .clear .ensures) (start .pre .1 .1 .1) in
+    (omega (arith, has), (omega (arith, has), omega (arith, has)))
 
 first-link-requires : tie.Need-first-link-requires Inv-loop μ-loop
 first-link-requires c κs =

@@ -9,6 +9,7 @@ pub mod Followed
 pub mod Again
 pub mod CloseFrames
 pub mod Meets
+pub mod OneKey
 pub mod Scanned
 pub mod RisingIndices
 pub mod Readied

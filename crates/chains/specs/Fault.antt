@@ -38,7 +38,13 @@ abbrev pub askedAt : List ℕ → Kind → ℕ → Option ℕ
 askedAt s Kind.Bone at = poseAsked (posed (boneBody s at))
 askedAt s Kind.Morph at = weightAsked (floatAt (morphBody s at) 0)
 
--- What is asked of a key, where it is known whether its frame is repeated.
+-- What is asked of a key's frame, where it is known whether it is repeated.
+abbrev pub frameMeets : Fields.Kind → ℕ → ℕ → Bool → Option Refusal
+frameMeets kind track frame repeated =
+    given (negative frame) (refusalOf kind 10 (pos track ∷ signed frame ∷ []))
+    or given repeated (refusalOf kind 11 (pos track ∷ signed frame ∷ []))
+
+-- What is asked of a key.
 abbrev pub keyMeets : List ℕ → Kind → ℕ → ℕ → ℕ → Bool → Option Refusal
 keyMeets s kind track frame body repeated =
     given (negative frame) (refusalOf (kindOf kind) 10 (pos track ∷ signed frame ∷ []))

@@ -2,6 +2,7 @@ pub mod Block
 pub mod Lookup
 pub mod Walk
 pub mod Fault
+pub mod MorphKeys
 pub mod Tracks
 pub mod Ready
 pub mod Scan

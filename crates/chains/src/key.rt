@@ -1,9 +1,13 @@
 // What is asked of one key of a track: 10, 11, and what is asked of its body.
 ghost use mathlib.Core.Path.{_≡_};
-ghost use Prim.Native.Nat.{_+_, _<_, _≤_};
+ghost use Prim.Native.Nat.{ℕ, _+_, _<_, _≤_};
 ghost use lib.ListN.{length};
+ghost use Rattle.clip.specs.Fields.{bone, morph};
+ghost use Rattle.clip.specs.Fields as Fields;
 ghost use Rattle.chains.specs.Block.{kindOf, bodySize};
-ghost use Rattle.chains.specs.Fault.{metRead, keyMeets};
+ghost use Rattle.chains.specs.Fault.{metRead, frameMeets, keyMeets};
+ghost use Rattle.chains.specs.MorphKeys.{morphKeyRead, morphKey};
+ghost use Rattle.chains.specs.declared.block.Kind.{Kind};
 use crate::block::Block;
 use crate::block::Kind;
 use crate::fault::BoneIndex;
@@ -13,32 +17,64 @@ use crate::fault::MorphIndex;
 use keys::pose;
 use keys::pose::Asked;
 
+// Document 01: a morph key is answered as its frame and weight, or as the refusal that it met.
+pub enum MorphKey {
+    Key(u32, f32),
+    Refused(Fault),
+}
+
+fn frame_asked(track: u32, frame: u32, repeated: bool) -> Met
+    ensures { λ r. ⌜ ((kind : Fields.Kind) (count : ℕ) → metRead kind count r ≡ frameMeets kind track frame repeated) ⌝ }
+{
+    if 2147483648 <= frame {
+        return Met::Refused(Fault::NegativeFrame(track as usize, frame));
+    }
+    if repeated {
+        return Met::Refused(Fault::RepeatedFrame(track as usize, frame));
+    }
+    Met::Nothing
+}
+
+fn bone_key(s: &[u8], track: BoneIndex, frame: u32, body: usize, repeated: bool) -> Met
+    requires { ⌜ body + 44 ≤ length (now s) ⌝ }
+    ensures { λ r. ⌜ ((count : ℕ) → metRead bone count r ≡ keyMeets (now (s .entry)) Kind.Bone (track .0) frame body repeated) ⌝ }
+{
+    match frame_asked(track.0, frame, repeated) {
+        Met::Refused(fault) => Met::Refused(fault),
+        Met::Nothing => match pose::bone_asked(s, body) {
+            Asked::Fine => Met::Nothing,
+            Asked::Refused(number) => Met::Refused(Fault::Pose(number, track, frame)),
+        },
+    }
+}
+
+pub fn morph_key(s: &[u8], track: MorphIndex, frame: u32, body: usize, repeated: bool) -> MorphKey
+    requires { ⌜ body + 4 ≤ length (now s) ⌝ }
+    ensures { λ r. ⌜ ((count : ℕ) → morphKeyRead count r ≡ morphKey (now (s .entry)) (track .0) frame body repeated) ⌝ }
+{
+    match frame_asked(track.0, frame, repeated) {
+        Met::Refused(fault) => MorphKey::Refused(fault),
+        Met::Nothing => {
+            let weight = pose::weight_at(s, body);
+            match pose::weight_asked(weight) {
+                Asked::Fine => MorphKey::Key(frame, weight),
+                Asked::Refused(number) => MorphKey::Refused(Fault::Weight(number, track, frame)),
+            }
+        }
+    }
+}
+
 pub fn key(s: &[u8], b: Block, track: usize, frame: u32, body: usize, repeated: bool) -> Met
     requires { ⌜ body + bodySize (b .kind) ≤ length (now s) ⌝ }
     requires { ⌜ track < 4294967296 ⌝ }
     ensures { λ r. ⌜ metRead (kindOf (b .kind)) (b .initials .count) r ≡ keyMeets (now (s .entry)) (b .kind) track frame body repeated ⌝ }
 {
-    if 2147483648 <= frame {
-        return Met::Refused(Fault::NegativeFrame(track, frame));
-    }
-    if repeated {
-        return Met::Refused(Fault::RepeatedFrame(track, frame));
-    }
     let kind = b.kind;
     match kind {
-        Kind::Bone => match pose::bone_asked(s, body) {
-            Asked::Fine => Met::Nothing,
-            Asked::Refused(number) => {
-                let bone = BoneIndex(track as u32);
-                Met::Refused(Fault::Pose(number, bone, frame))
-            }
-        },
-        Kind::Morph => match pose::morph_asked(s, body) {
-            Asked::Fine => Met::Nothing,
-            Asked::Refused(number) => {
-                let morph = MorphIndex(track as u32);
-                Met::Refused(Fault::Weight(number, morph, frame))
-            }
+        Kind::Bone => bone_key(s, BoneIndex(track as u32), frame, body, repeated),
+        Kind::Morph => match morph_key(s, MorphIndex(track as u32), frame, body, repeated) {
+            MorphKey::Key(_, _) => Met::Nothing,
+            MorphKey::Refused(fault) => Met::Refused(fault),
         },
     }
 }

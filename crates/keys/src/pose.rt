@@ -15,7 +15,7 @@ ghost use Rattle.clip.specs.Keys.{
   weightAsked,
 };
 ghost use Rattle.clip.specs.Section.{boneBody, morphBody};
-ghost use Rattle.keys.specs.Answers.{askedRead, morphKeyRead, morphKey};
+ghost use Rattle.keys.specs.Answers.{askedRead};
 use crate::words;
 use binary::numbers;
 use records::pose;
@@ -25,12 +25,6 @@ use records::pose::PoseBits;
 // Nothing against the body, or the number of the refusal that it meets.
 pub enum Asked {
     Fine,
-    Refused(u8),
-}
-
-// Document 01: a morph key is answered as its frame and weight, or as the refusal that it met.
-pub enum MorphKey {
-    Key(u32, f32),
     Refused(u8),
 }
 
@@ -117,26 +111,4 @@ pub fn bone_asked(s: &[u8], at: usize) -> Asked
     ensures { λ r. ⌜ askedRead r ≡ poseAsked (posed (boneBody (now (s .entry)) at)) ⌝ }
 {
     pose_asked(pose_at(s, at))
-}
-
-pub fn morph_key(s: &[u8], at: usize, frame: u32) -> MorphKey
-    requires { ⌜ at + 4 ≤ length (now s) ⌝ }
-    ensures { λ r. ⌜ morphKeyRead r ≡ morphKey (morphBody (now (s .entry)) at) frame ⌝ }
-{
-    let weight = weight_at(s, at);
-    match weight_asked(weight) {
-        Asked::Fine => MorphKey::Key(frame, weight),
-        Asked::Refused(number) => MorphKey::Refused(number),
-    }
-}
-
-// What is asked of a morph key does not turn on its frame.
-pub fn morph_asked(s: &[u8], at: usize) -> Asked
-    requires { ⌜ at + 4 ≤ length (now s) ⌝ }
-    ensures { λ r. ⌜ askedRead r ≡ weightAsked (floatAt (morphBody (now (s .entry)) at) 0) ⌝ }
-{
-    match morph_key(s, at, 0) {
-        MorphKey::Key(_, _) => Asked::Fine,
-        MorphKey::Refused(number) => Asked::Refused(number),
-    }
 }

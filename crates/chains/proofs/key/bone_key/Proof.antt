@@ -1,0 +1,53 @@
+-- `bone_key` meets its contract. Assumes nothing.
+use Rattle.chains.specs.declared.block.Kind.{Kind}
+use Rattle.chains.proofs.OneKey.{frame-refused, body-fine, body-refused}
+use borrow.Author.Needs.{needs}
+use Rattle.chains.proofs.key.bone_key.Statement.{statement}
+use Rattle.chains.proofs.key.bone_key.Tie as tie
+
+frame-asked-requires : tie.Need-frame-asked-requires
+frame-asked-requires c κs = search needs
+
+enum-known-fault : tie.Need-enum-known-fault
+enum-known-fault c = search needs
+
+enum-told : tie.Need-enum-told
+enum-told c = search needs
+
+bone-asked-requires : tie.Need-bone-asked-requires
+bone-asked-requires c κs = search needs
+
+enum-told-2 : tie.Need-enum-told-2
+enum-told-2 c = search needs
+
+enum-known-number : tie.Need-enum-known-number
+enum-known-number c = search needs
+
+returns : tie.Need-returns
+returns c =
+    let start = c .before .before .before .before .before in
+    frame-refused (start .args .s .now) Kind.Bone (start .args .track .0) (start .args .frame) (start .args .body) (start .args .repeated) _ (c .before .before .before .frame-asked .ensures) (c .before .fault .given .1)
+
+returns-2 : tie.Need-returns-2
+returns-2 c =
+    let start = c .before .before .before .before .before .before .before in
+    λ count. body-fine (start .args .s .now) Kind.Bone (start .args .track .0) (start .args .frame) (start .args .body) (start .args .repeated) _ (c .before .before .before .before .before .frame-asked .ensures) (c .before .before .before .enum-told .given .1) _ (c .before .before .bone-asked .ensures) (c .enum-told2 .given .1)
+
+returns-3 : tie.Need-returns-3
+returns-3 c =
+    let start = c .before .before .before .before .before .before .before .before in
+    λ count. body-refused (start .args .s .now) Kind.Bone (start .args .track .0) (start .args .frame) (start .args .body) (start .args .repeated) _ (c .before .before .before .before .before .before .frame-asked .ensures) (c .before .before .before .before .enum-told .given .1) _ (c .before .before .before .bone-asked .ensures) (c .before .number .given .1)
+
+pub bone-key-spec : {M : Type 1} → statement M
+bone-key-spec =
+    tie.close
+    (tie.spec
+    frame-asked-requires
+    enum-known-fault
+    enum-told
+    bone-asked-requires
+    enum-told-2
+    enum-known-number
+    returns
+    returns-2
+    returns-3)

@@ -1,5 +1,7 @@
 pub mod Bodies
 pub mod Clamping
+pub mod ItemsRead
+pub mod AsShown
 pub mod Asking
 pub mod Groups
 pub mod Placing

@@ -9,7 +9,7 @@ use mir.Val.{ofZ}
 use Rattle.layout.specs.Walk.{Refusal, Answer, answered, declined}
 use Rattle.numbers.specs.Put.{put}
 
--- A refusal's values are offsets; as for every ℤ, the 64-bit pattern is written.
+-- A refusal's values, which are offsets here, each as its 64-bit pattern.
 abbrev pub values : Refusal → List ℕ
 values why = map (ofZ w64) (why .values)
 

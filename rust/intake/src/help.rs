@@ -9,8 +9,9 @@ intake: model sections of MikuMikuDance projects (PMM), and the strips made from
   intake SUBCOMMAND --help     more of one of them
 
 FILE holds one model section at its start, or at --start N; with --model N it is a whole PMMv2 project, and its
-model N is taken, counted from 0. A file called - is standard input or output. Sections may have up to
-16,777,215 bytes. Every subcommand takes --json, and then reports with one line of JSON.
+model N is taken, counted from 0. A project given with neither is not read as a section. A file called - is
+standard input or output. Sections may have up to 16,777,215 bytes.
+Every subcommand takes --json, and then reports with one line of JSON.
 
 Exit statuses:
   0  done; the strips agree
@@ -19,7 +20,7 @@ Exit statuses:
   3  the library refused the section; the number is that of document 01
   4  a file cannot be read or written
   5  a strip is malformed
-  6  not a PMMv2 project, or it has no model of that number
+  6  a project, given without --model or --start; or not a PMMv2 project, or it has no model of that number
 
 The section is read and its strip built by the proved library. This program itself reads files, walks a
 project's sections, reads and compares stored strips, and prints.
@@ -38,7 +39,8 @@ curves 4, its rotation curve 8; a morph's weight counts 1. A section that is ref
 the reason and place on standard error, and the exit status 3.
 
   FILE         a file that holds the section; - for standard input
-  --start N    the section begins at this offset of FILE (0 if not given); at most 16,777,215 bytes in all
+  --start N    the section begins at this offset of FILE (0 if not given, and then FILE must not be a project);
+               FILE has at most 16,777,215 bytes in all
   --model N    FILE is a PMMv2 project; its model N, from 0, whose section has at most 16,777,215 bytes
   --json       one object: result \"listed\", status, bones, morphs, end, keys (each: kind, track, frame, map),
                key_count, loose; or result \"refused\", status, file, model, number, kind, values, words
@@ -55,7 +57,8 @@ no chain reaches (loose). Where the section is refused, OUT is left as it was.
 
   FILE         a file that holds the section; - for standard input
   -o OUT       the strip's file, also --output OUT; - for standard output, and then the report is on standard error
-  --start N    the section begins at this offset of FILE (0 if not given); at most 16,777,215 bytes in all
+  --start N    the section begins at this offset of FILE (0 if not given, and then FILE must not be a project);
+               FILE has at most 16,777,215 bytes in all
   --model N    FILE is a PMMv2 project; its model N, from 0, whose section has at most 16,777,215 bytes
   --json       one object: result \"written\", status, output, length, reached, loose;
                or result \"refused\", status, file, model, number, kind, values, words

@@ -33,6 +33,8 @@ pub struct Section {
 
 #[derive(Debug, Clone, Copy, PartialEq, Eq)]
 pub enum At {
+    /// At the front of the file, which is no project.
+    Front,
     /// At this offset of the file.
     Start(usize),
     /// The model of this number, from 0, in a PMMv2 project.
@@ -126,7 +128,7 @@ fn section(subcommand: &str, given: Given) -> Result<Section, String> {
         (Some(_), Some(_)) => return Err("--start and --model exclude each other".into()),
         (_, Some(model)) => At::Model(number("--model", &model)?),
         (Some(start), None) => At::Start(number("--start", &start)?),
-        (None, None) => At::Start(0),
+        (None, None) => At::Front,
     };
     let [file] = <[_; 1]>::try_from(given.files).map_err(|files| amount(subcommand, "one file", files.len()))?;
     Ok(Section { file, at })

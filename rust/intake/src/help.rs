@@ -16,7 +16,7 @@ Every subcommand takes --json, and then reports with one line of JSON.
 Exit statuses:
   0  done; the strips agree
   1  the strips differ
-  2  the arguments are not understood
+  2  the arguments are not understood, or the strip would take the place of its section
   3  the library refused the section; the number is that of document 01
   4  a file cannot be read or written
   5  a strip is malformed
@@ -53,7 +53,8 @@ pub const STRIP: &str = "\
 intake strip FILE -o OUT [--start N | --model N] [--json]: the strip of a section
 
 Writes the strip to OUT and tells its length, how many links its chains follow (reached) and how many records
-no chain reaches (loose). Where the section is refused, OUT is left as it was.
+no chain reaches (loose). Where the section is refused, OUT is left as it was. FILE and OUT must not be the same
+file, by whatever names or links.
 
   FILE         a file that holds the section; - for standard input
   -o OUT       the strip's file, also --output OUT; - for standard output, and then the report is on standard error

@@ -13,6 +13,7 @@ mod list;
 mod options;
 mod project;
 mod report;
+mod same;
 mod stored;
 mod strip;
 

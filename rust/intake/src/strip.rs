@@ -9,6 +9,7 @@ use crate::input::{Lent, failed};
 use crate::json::Json;
 use crate::options::Section;
 use crate::report::Report;
+use crate::same;
 
 pub fn strip(section: &Section, output: &OsStr) -> Report {
     written(section, output).unwrap_or_else(Report::from)
@@ -16,6 +17,9 @@ pub fn strip(section: &Section, output: &OsStr) -> Report {
 
 /// A refusal leaves the output file as it was.
 fn written(section: &Section, output: &OsStr) -> Result<Report, Failure> {
+    if same::replaces(&section.file, output) {
+        return Err(Failure::Usage("strip: FILE and OUT are the same file".into()));
+    }
     let lent = Lent::read(section)?;
     let strip = limdroven::strip(&lent.bytes, lent.start).map_err(|refusal| lent.refused(refusal))?;
     let told = if output == "-" { "standard output".into() } else { named(output) };

@@ -3,6 +3,7 @@
 use std::ffi::{OsStr, OsString};
 
 use crate::help;
+use crate::report::Stream;
 
 #[derive(Debug, PartialEq, Eq)]
 pub enum Asked {
@@ -55,6 +56,13 @@ struct Given {
 /// Even where the arguments are not understood.
 pub fn wants_json(arguments: &[OsString]) -> bool {
     arguments.iter().take_while(|argument| *argument != "--").any(|argument| argument == "--json")
+}
+
+/// Where the report goes if the arguments are not understood, which may name standard output for the strip.
+pub fn stream(arguments: &[OsString]) -> Stream {
+    let pairs = arguments.iter().take_while(|argument| *argument != "--").zip(arguments.iter().skip(1));
+    let outputs = pairs.filter(|(option, _)| *option == "-o" || *option == "--output").map(|(_, output)| output);
+    outputs.map(|output| Stream::beside(output)).find(|stream| *stream == Stream::Error).unwrap_or(Stream::Output)
 }
 
 /// What is asked, or what is wrong with the arguments.

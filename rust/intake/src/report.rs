@@ -1,15 +1,24 @@
 //! What is told of a run, as text or as JSON.
 
+use std::ffi::OsStr;
 use std::io::{self, Write};
 
 use crate::failure::{FILE_STATUS, Failure};
 use crate::json::Json;
+use crate::same;
 
 /// Where a report goes: to standard error where standard output takes the strip.
 #[derive(Debug, Clone, Copy, PartialEq, Eq)]
 pub enum Stream {
     Output,
     Error,
+}
+
+impl Stream {
+    /// Where the strip goes to this output.
+    pub fn beside(output: &OsStr) -> Self {
+        if same::is_standard_output(output) { Self::Error } else { Self::Output }
+    }
 }
 
 #[derive(Debug)]

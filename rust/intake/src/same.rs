@@ -10,6 +10,11 @@ pub fn replaces(input: &OsStr, output: &OsStr) -> bool {
     by_path || inode::replaces(input, output)
 }
 
+/// `-`, or a name such as /dev/stdout.
+pub fn is_standard_output(output: &OsStr) -> bool {
+    output == "-" || inode::is_standard_output(output)
+}
+
 /// Also through hard links and redirections.
 #[cfg(unix)]
 mod inode {
@@ -17,11 +22,16 @@ mod inode {
     use std::fs::{self, File, Metadata};
     use std::io;
     use std::os::fd::AsFd;
-    use std::os::unix::fs::MetadataExt;
+    use std::os::unix::fs::{FileTypeExt, MetadataExt};
 
     pub fn replaces(input: &OsStr, output: &OsStr) -> bool {
         let input = if input == "-" { of_stream(io::stdin()) } else { fs::metadata(input).ok() };
         output != "-" && is_one(input.filter(Metadata::is_file), output)
+    }
+
+    /// A device, as a terminal is, can be written by both of its names.
+    pub fn is_standard_output(output: &OsStr) -> bool {
+        is_one(of_stream(io::stdout()).filter(|found| !found.file_type().is_char_device()), output)
     }
 
     fn of_stream(stream: impl AsFd) -> Option<Metadata> {
@@ -39,6 +49,10 @@ mod inode {
     use std::ffi::OsStr;
 
     pub fn replaces(_: &OsStr, _: &OsStr) -> bool {
+        false
+    }
+
+    pub fn is_standard_output(_: &OsStr) -> bool {
         false
     }
 }

@@ -36,7 +36,7 @@ fn written(section: &Section, output: &OsStr) -> Result<Report, Failure> {
 }
 
 fn write(output: &OsStr, bytes: &[u8]) -> io::Result<()> {
-    if output != "-" {
+    if !same::is_standard_output(output) {
         return fs::write(output, bytes);
     }
     io::stdout().write_all(bytes)?;

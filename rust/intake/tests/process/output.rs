@@ -4,7 +4,7 @@ use std::fs::{self, File};
 use std::os::unix::fs::symlink;
 use std::process::Command;
 
-use crate::command::{Ran, file, intake, place, sample};
+use crate::command::{Ran, file, intake, intake_with, place, sample};
 use crate::json;
 
 /// By its name, by links and by what standard input is: the section's own file is left as it was.
@@ -29,4 +29,17 @@ fn not_over_the_section() {
     assert_eq!(redirected.output().expect("ended").status.code(), Some(2));
     assert_eq!(fs::read(&section).expect("read"), sample("stdin"));
     assert!(fs::symlink_metadata(&soft).expect("there").is_symlink());
+}
+
+/// The strip alone is on standard output, under that name too.
+#[test]
+fn standard_output_by_name() {
+    let strip = intake_with(&["strip", "-", "-o", "-"], &sample("stdin"));
+    assert_eq!(intake_with(&["strip", "-", "-o", "/dev/stdout"], &sample("stdin")), strip);
+    let path = place("output redirected");
+    let mut redirected = Command::new(env!("CARGO_BIN_EXE_intake"));
+    redirected.args(["strip", &file("output sample", &sample("stdin")), "-o", "/dev/stdout"]);
+    let ran = redirected.stdout(File::create(&path).expect("created")).output().expect("ended");
+    assert_eq!((ran.status.code(), ran.stderr), (Some(0), strip.error.into_bytes()));
+    assert_eq!(fs::read(&path).expect("read"), strip.output);
 }

@@ -39,6 +39,27 @@ fn arguments() {
     assert!(last.error.starts_with("intake: -o lacks what follows it"), "{}", last.error);
 }
 
+/// Where standard output is to take the strip, nothing else goes there.
+#[test]
+fn beside_the_strip() {
+    for arguments in [
+        &["strip", "a", "b", "-o", "-", "--json"][..],
+        &["strip", "--output", "-", "--json"],
+        &["strip", "--json", "a", "-o", "-", "--start", "x"],
+        &["strip", "a", "--json", "-o", "-", "-o", "b"],
+        &["--json", "strip", "a", "-o", "-"],
+    ] {
+        let ran = intake(arguments);
+        assert_eq!((ran.status, ran.output.len()), (2, 0), "{arguments:?}");
+        assert_eq!(json::line(&ran.error).keys(), ["result", "status", "words"]);
+    }
+    for arguments in [&["strip", "a", "--json", "-o"][..], &["strip", "--json", "-o", "b", "--", "-o", "-"]] {
+        let ran = intake(arguments);
+        assert_eq!((ran.status, ran.error.len()), (2, 0), "{arguments:?}");
+        assert_eq!(json::line(ran.text()).text("result"), "usage");
+    }
+}
+
 /// Behind `--` every argument is a file.
 #[test]
 fn after_two_dashes() {

@@ -53,8 +53,10 @@ pub const STRIP: &str = "\
 intake strip FILE -o OUT [--start N | --model N] [--json]: the strip of a section
 
 Writes the strip to OUT and tells its length, how many links its chains follow (reached) and how many records
-no chain reaches (loose). Where the section is refused, OUT is left as it was. FILE and OUT must not be the same
-file, by whatever names or links.
+no chain reaches (loose). Where the section is refused or the strip cannot be written, OUT is left as it was:
+the strip is written to a new file beside OUT, which takes OUT's place, with its permissions, once it is whole.
+What is no regular file, as a pipe, is written directly. FILE and OUT must not be the same file, by whatever
+names or links.
 
   FILE         a file that holds the section; - for standard input
   -o OUT       the strip's file, also --output OUT; - for standard output, and then the report is on standard error

@@ -11,6 +11,7 @@ mod input;
 mod json;
 mod list;
 mod options;
+mod output;
 mod project;
 mod report;
 mod same;

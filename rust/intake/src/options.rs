@@ -159,8 +159,7 @@ fn amount(subcommand: &str, wanted: &str, found: usize) -> String {
 }
 
 fn number(option: &str, text: &OsStr) -> Result<usize, String> {
-    let digits = text.to_str().filter(|text| text.bytes().all(|byte| byte.is_ascii_digit()));
-    digits
-        .and_then(|text| text.parse().ok())
-        .ok_or(format!("{option} {} is no number from 0 on", text.to_string_lossy()))
+    let digits = text.to_str().filter(|text| !text.is_empty() && text.bytes().all(|byte| byte.is_ascii_digit()));
+    let digits = digits.ok_or_else(|| format!("{option} {} is no number from 0 on", text.to_string_lossy()))?;
+    digits.parse().map_err(|_| format!("{option} {digits} is too large"))
 }

@@ -53,10 +53,17 @@ impl Report {
             return print(stream, &format!("{object}\n"), self.status);
         }
         if let Some(error) = self.error {
-            print(Stream::Error, &format!("intake: {error}\n"), self.status);
+            print(Stream::Error, &format!("intake: {}\n", printable(&error)), self.status);
         }
         print(stream, &self.text, self.status)
     }
+}
+
+/// Control characters, which a file's name may have, are written out.
+fn printable(text: &str) -> String {
+    let written =
+        |character: char| if character.is_control() { character.escape_debug().to_string() } else { character.into() };
+    text.chars().map(written).collect()
 }
 
 /// The status given, or that of a file which cannot be written.

@@ -11,7 +11,10 @@ intake: model sections of MikuMikuDance projects (PMM), and the strips made from
 FILE holds one model section at its start, or at --start N; with --model N it is a whole PMMv2 project, and its
 model N is taken, counted from 0. A project given with neither is not read as a section. A file called - is
 standard input or output. Sections may have up to 16,777,215 bytes.
-Every subcommand takes --json, and then reports with one line of JSON.
+
+Every subcommand takes --json, and then reports with one line of JSON: an object of result, status and what the
+subcommand's help names. A run that ends with status 2 gives result \"usage\", status, words; with 4 result \"file\"
+or with 6 result \"project\", both with status, file, words.
 
 Exit statuses:
   0  done; the strips agree

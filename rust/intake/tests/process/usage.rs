@@ -79,6 +79,9 @@ fn help() {
     for status in ["0  done", "1  the strips differ", "2  ", "3  ", "4  ", "5  ", "6  "] {
         assert!(program.contains(&format!("\n  {status}")), "{status}");
     }
+    for result in ["usage", "file", "project"] {
+        assert!(program.contains(&format!("result \"{result}\"")), "{result}");
+    }
     assert!(list.starts_with("intake list FILE [--start N | --model N] [--json]"));
     assert!(strip.starts_with("intake strip FILE -o OUT [--start N | --model N] [--json]"));
     assert!(compare.starts_with("intake compare A B [--json]"));

@@ -11,14 +11,19 @@
       2   a count is negative                                                 value: the offset of the count
      16   more than 16,777,215 bytes are lent                                 no value
      19   there is no record, name, state or entry of that number             no value
-     20   a count is above its limit (not in camera and light sections)       value: the offset of the count
+     20   more than 65,535 bones or morphs, or more than 65,534 additional    value: the offset of the count
+          records of either (not in camera and light sections)
+
+   The first refusal met is returned. 16 is tested first; then the section is read, and 1, 2 and 20 are met in file order, at a count
+   in this order; 19 is tested after the whole section is read.
 
    The answer's numbers, or the refusal's value, are written into `values` from place 0 on as far as it reaches; later places
    stay as they were. An i32 is written as its 32-bit pattern (below 2^32), a bool as 0 or 1, an f32 as its bits, any NaN
    as 0x7fc00000, the index of an initial record, which has none, as 2^64 - 1.
 
    Calls that answer bytes. They return the length of the part and write its bytes into `output` from place 0 on as far as
-   it reaches; later places stay as they were. Where the call that answers numbers for the same arguments refuses, the part is empty.
+   it reaches; later places stay as they were. Where the call that answers numbers for the same arguments refuses, the part is empty;
+   limdroven_bone_interpolation alone then answers 16 bytes, all 0.
 */
 #ifndef LIMDROVEN_H
 #define LIMDROVEN_H

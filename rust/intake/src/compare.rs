@@ -36,10 +36,15 @@ fn stored<'a>(path: &OsStr, bytes: &'a [u8]) -> Result<Stored<'a>, Failure> {
 
 fn agree(strip: &Stored) -> Report {
     let (bones, morphs, keys) = (strip.bones.len(), strip.morphs.len(), strip.key_count());
-    let text = format!("agree: {bones} bone tracks, {morphs} morph tracks, {keys} keys\n");
+    let [bone_tracks, morph_tracks] = [counted(bones, "bone track"), counted(morphs, "morph track")];
+    let text = format!("agree: {bone_tracks}, {morph_tracks}, {}\n", counted(keys, "key"));
     let keys =
         vec![("bones", Json::number(bones)), ("morphs", Json::number(morphs)), ("key_count", Json::number(keys))];
     Report { status: 0, result: "agree", keys, text, error: None }
+}
+
+fn counted(count: usize, what: &str) -> String {
+    format!("{count} {what}{}", if count == 1 { "" } else { "s" })
 }
 
 fn differ(difference: &Difference) -> Report {

@@ -29,7 +29,7 @@ pub enum Failure {
         file: String,
         malformed: Malformed,
     },
-    /// The file is no PMMv2 project, or has no such model.
+    /// The file is a project where a section was asked for; or it is no PMMv2 project, or has no such model.
     Project {
         file: String,
         words: String,

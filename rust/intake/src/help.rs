@@ -9,17 +9,21 @@ intake: model sections of MikuMikuDance projects (PMM), and the strips made from
   intake SUBCOMMAND --help     more of one of them
 
 FILE holds one model section at its start, or at --start N; with --model N it is a whole PMMv2 project, and its
-model N is taken, counted from 0. A file called - is standard input or output. Sections may have up to
-16,777,215 bytes. Every subcommand takes --json, and then reports with one line of JSON.
+model N is taken, counted from 0. A project given with neither is not read as a section. A file called - is
+standard input or output. Sections may have up to 16,777,215 bytes.
+
+Every subcommand takes --json, and then reports with one line of JSON: an object of result, status and what the
+subcommand's help names. A run that ends with status 2 gives result \"usage\", status, words; with 4 result \"file\"
+or with 6 result \"project\", both with status, file, words.
 
 Exit statuses:
   0  done; the strips agree
   1  the strips differ
-  2  the arguments are not understood
+  2  the arguments are not understood, or the strip would take the place of its section
   3  the library refused the section; the number is that of document 01
   4  a file cannot be read or written
   5  a strip is malformed
-  6  not a PMMv2 project, or it has no model of that number
+  6  a project, given without --model or --start; or not a PMMv2 project, or it has no model of that number
 
 The section is read and its strip built by the proved library. This program itself reads files, walks a
 project's sections, reads and compares stored strips, and prints.
@@ -38,7 +42,8 @@ curves 4, its rotation curve 8; a morph's weight counts 1. A section that is ref
 the reason and place on standard error, and the exit status 3.
 
   FILE         a file that holds the section; - for standard input
-  --start N    the section begins at this offset of FILE (0 if not given); at most 16,777,215 bytes in all
+  --start N    the section begins at this offset of FILE (0 if not given, and then FILE must not be a project);
+               FILE has at most 16,777,215 bytes in all
   --model N    FILE is a PMMv2 project; its model N, from 0, whose section has at most 16,777,215 bytes
   --json       one object: result \"listed\", status, bones, morphs, end, keys (each: kind, track, frame, map),
                key_count, loose; or result \"refused\", status, file, model, number, kind, values, words
@@ -51,11 +56,15 @@ pub const STRIP: &str = "\
 intake strip FILE -o OUT [--start N | --model N] [--json]: the strip of a section
 
 Writes the strip to OUT and tells its length, how many links its chains follow (reached) and how many records
-no chain reaches (loose). Where the section is refused, OUT is left as it was.
+no chain reaches (loose). Where the section is refused or the strip cannot be written, OUT is left as it was:
+the strip is written to a new file beside OUT, which takes OUT's place, with its permissions, once it is whole.
+What is no regular file, as a pipe, is written directly. FILE and OUT must not be the same file, by whatever
+names or links.
 
   FILE         a file that holds the section; - for standard input
   -o OUT       the strip's file, also --output OUT; - for standard output, and then the report is on standard error
-  --start N    the section begins at this offset of FILE (0 if not given); at most 16,777,215 bytes in all
+  --start N    the section begins at this offset of FILE (0 if not given, and then FILE must not be a project);
+               FILE has at most 16,777,215 bytes in all
   --model N    FILE is a PMMv2 project; its model N, from 0, whose section has at most 16,777,215 bytes
   --json       one object: result \"written\", status, output, length, reached, loose;
                or result \"refused\", status, file, model, number, kind, values, words

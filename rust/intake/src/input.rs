@@ -29,20 +29,32 @@ impl Lent {
         let file = named(&section.file);
         let mut input = open(&section.file)?;
         match section.at {
-            At::Start(start) => {
-                // One byte more than the library takes is enough for it to refuse all that are longer.
-                let bytes = read(&mut *input, MOST_BYTES + 1).map_err(failed(&file))?;
-                Ok(Self { file, bytes, start, base: 0, model: None })
-            }
+            At::Front => Self::whole(&mut *input, file, 0)?.no_project(),
+            At::Start(start) => Self::whole(&mut *input, file, start),
             At::Model(model) => project::section(&mut *input, file, model),
         }
+    }
+
+    fn whole(input: &mut dyn Read, file: String, start: usize) -> Result<Self, Failure> {
+        // One byte more than the library takes is enough for it to refuse all that are longer.
+        let bytes = read(input, MOST_BYTES + 1).map_err(failed(&file))?;
+        Ok(Self { file, bytes, start, base: 0, model: None })
+    }
+
+    /// The front of a project can read as a section, whose strip would be that of none of its models.
+    fn no_project(self) -> Result<Self, Failure> {
+        if !self.bytes.starts_with(project::SIGNATURE) {
+            return Ok(self);
+        }
+        let words = "this is a project: --model N takes its model N, --start 0 reads it as a section".into();
+        Err(Failure::Project { file: self.file, words })
     }
 
     pub fn summary(&self) -> Result<PmmDocumentModelSummary, Failure> {
         model_summary(&self.bytes, self.start).map_err(|refusal| self.refused(refusal))
     }
 
-    /// The refusal with its place in the file.
+    /// The refusal with its place in the file, and a hint where `--start` was given for a project.
     pub fn refused(&self, refusal: Refusal) -> Failure {
         let unnamed_model = self.model.is_none() && self.bytes.starts_with(project::SIGNATURE);
         let hint = if unnamed_model { " (this looks like a project: --model N takes its model N)" } else { "" };

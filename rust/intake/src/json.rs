@@ -67,7 +67,7 @@ fn quoted(text: &str, formatter: &mut fmt::Formatter<'_>) -> fmt::Result {
     for character in text.chars() {
         match character {
             '"' | '\\' => write!(formatter, "\\{character}")?,
-            '\u{0}'..='\u{1f}' => write!(formatter, "\\u{:04x}", u32::from(character))?,
+            _ if character.is_control() => write!(formatter, "\\u{:04x}", u32::from(character))?,
             _ => formatter.write_char(character)?,
         }
     }

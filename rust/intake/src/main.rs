@@ -11,8 +11,10 @@ mod input;
 mod json;
 mod list;
 mod options;
+mod output;
 mod project;
 mod report;
+mod same;
 mod stored;
 mod strip;
 
@@ -28,7 +30,9 @@ fn main() -> ExitCode {
     let status = match options::parse(&arguments) {
         Ok(Asked::Help(text)) => report::print(Stream::Output, text, 0),
         Ok(Asked::Run(options)) => run(&options),
-        Err(words) => Report::from(Failure::Usage(words)).say(options::wants_json(&arguments), Stream::Output),
+        Err(words) => {
+            Report::from(Failure::Usage(words)).say(options::wants_json(&arguments), options::stream(&arguments))
+        }
     };
     ExitCode::from(status)
 }
@@ -37,8 +41,7 @@ fn main() -> ExitCode {
 fn run(options: &Options) -> u8 {
     let (report, stream) = match &options.command {
         Command::List(section) => (list::list(section), Stream::Output),
-        Command::Strip(section, output) if output == "-" => (strip::strip(section, output), Stream::Error),
-        Command::Strip(section, output) => (strip::strip(section, output), Stream::Output),
+        Command::Strip(section, output) => (strip::strip(section, output), Stream::beside(output)),
         Command::Compare(first, second) => (compare::compare(first, second), Stream::Output),
     };
     report.say(options.json, stream)

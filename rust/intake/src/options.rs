@@ -3,6 +3,7 @@
 use std::ffi::{OsStr, OsString};
 
 use crate::help;
+use crate::report::Stream;
 
 #[derive(Debug, PartialEq, Eq)]
 pub enum Asked {
@@ -33,6 +34,8 @@ pub struct Section {
 
 #[derive(Debug, Clone, Copy, PartialEq, Eq)]
 pub enum At {
+    /// At the front of the file, which is no project.
+    Front,
     /// At this offset of the file.
     Start(usize),
     /// The model of this number, from 0, in a PMMv2 project.
@@ -53,6 +56,13 @@ struct Given {
 /// Even where the arguments are not understood.
 pub fn wants_json(arguments: &[OsString]) -> bool {
     arguments.iter().take_while(|argument| *argument != "--").any(|argument| argument == "--json")
+}
+
+/// Where the report goes if the arguments are not understood, which may name standard output for the strip.
+pub fn stream(arguments: &[OsString]) -> Stream {
+    let pairs = arguments.iter().take_while(|argument| *argument != "--").zip(arguments.iter().skip(1));
+    let outputs = pairs.filter(|(option, _)| *option == "-o" || *option == "--output").map(|(_, output)| output);
+    outputs.map(|output| Stream::beside(output)).find(|stream| *stream == Stream::Error).unwrap_or(Stream::Output)
 }
 
 /// What is asked, or what is wrong with the arguments.
@@ -126,7 +136,7 @@ fn section(subcommand: &str, given: Given) -> Result<Section, String> {
         (Some(_), Some(_)) => return Err("--start and --model exclude each other".into()),
         (_, Some(model)) => At::Model(number("--model", &model)?),
         (Some(start), None) => At::Start(number("--start", &start)?),
-        (None, None) => At::Start(0),
+        (None, None) => At::Front,
     };
     let [file] = <[_; 1]>::try_from(given.files).map_err(|files| amount(subcommand, "one file", files.len()))?;
     Ok(Section { file, at })
@@ -149,8 +159,7 @@ fn amount(subcommand: &str, wanted: &str, found: usize) -> String {
 }
 
 fn number(option: &str, text: &OsStr) -> Result<usize, String> {
-    let digits = text.to_str().filter(|text| text.bytes().all(|byte| byte.is_ascii_digit()));
-    digits
-        .and_then(|text| text.parse().ok())
-        .ok_or(format!("{option} {} is no number from 0 on", text.to_string_lossy()))
+    let digits = text.to_str().filter(|text| !text.is_empty() && text.bytes().all(|byte| byte.is_ascii_digit()));
+    let digits = digits.ok_or_else(|| format!("{option} {} is no number from 0 on", text.to_string_lossy()))?;
+    digits.parse().map_err(|_| format!("{option} {digits} is too large"))
 }

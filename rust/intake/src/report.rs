@@ -1,15 +1,24 @@
 //! What is told of a run, as text or as JSON.
 
+use std::ffi::OsStr;
 use std::io::{self, Write};
 
 use crate::failure::{FILE_STATUS, Failure};
 use crate::json::Json;
+use crate::same;
 
 /// Where a report goes: to standard error where standard output takes the strip.
 #[derive(Debug, Clone, Copy, PartialEq, Eq)]
 pub enum Stream {
     Output,
     Error,
+}
+
+impl Stream {
+    /// Where the strip goes to this output.
+    pub fn beside(output: &OsStr) -> Self {
+        if same::is_standard_output(output) { Self::Error } else { Self::Output }
+    }
 }
 
 #[derive(Debug)]
@@ -44,10 +53,17 @@ impl Report {
             return print(stream, &format!("{object}\n"), self.status);
         }
         if let Some(error) = self.error {
-            print(Stream::Error, &format!("intake: {error}\n"), self.status);
+            print(Stream::Error, &format!("intake: {}\n", printable(&error)), self.status);
         }
         print(stream, &self.text, self.status)
     }
+}
+
+/// Control characters, which a file's name may have, are written out.
+fn printable(text: &str) -> String {
+    let written =
+        |character: char| if character.is_control() { character.escape_debug().to_string() } else { character.into() };
+    text.chars().map(written).collect()
 }
 
 /// The status given, or that of a file which cannot be written.

@@ -1,25 +1,28 @@
 //! `intake strip`: a section's strip, written to a file.
 
 use std::ffi::OsStr;
-use std::fs;
-use std::io::{self, Write};
 
 use crate::failure::{Failure, named};
 use crate::input::{Lent, failed};
 use crate::json::Json;
 use crate::options::Section;
+use crate::output;
 use crate::report::Report;
+use crate::same;
 
 pub fn strip(section: &Section, output: &OsStr) -> Report {
     written(section, output).unwrap_or_else(Report::from)
 }
 
-/// A refusal leaves the output file as it was.
+/// A failure leaves the output file as it was.
 fn written(section: &Section, output: &OsStr) -> Result<Report, Failure> {
+    if same::replaces(&section.file, output) {
+        return Err(Failure::Usage("strip: FILE and OUT are the same file".into()));
+    }
     let lent = Lent::read(section)?;
     let strip = limdroven::strip(&lent.bytes, lent.start).map_err(|refusal| lent.refused(refusal))?;
     let told = if output == "-" { "standard output".into() } else { named(output) };
-    write(output, &strip.bytes).map_err(failed(&told))?;
+    output::write(output, &strip.bytes).map_err(failed(&told))?;
     let length = strip.bytes.len();
     let keys = vec![
         ("output", Json::text(named(output))),
@@ -29,12 +32,4 @@ fn written(section: &Section, output: &OsStr) -> Result<Report, Failure> {
     ];
     let text = format!("{length} bytes, {} reached, {} loose\n", strip.reached, strip.loose);
     Ok(Report { status: 0, result: "written", keys, text, error: None })
-}
-
-fn write(output: &OsStr, bytes: &[u8]) -> io::Result<()> {
-    if output != "-" {
-        return fs::write(output, bytes);
-    }
-    io::stdout().write_all(bytes)?;
-    io::stdout().flush()
 }

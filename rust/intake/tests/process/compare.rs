@@ -38,10 +38,22 @@ fn numbers(list: &[&str]) -> Json {
 #[test]
 fn agree() {
     let (ran, told) = compared("agree", &strip());
-    let text = "agree: 1 bone tracks, 1 morph tracks, 3 keys\n";
+    let text = "agree: 1 bone track, 1 morph track, 3 keys\n";
     assert_eq!(ran, Ran { status: 0, output: text.into(), error: String::new() });
     assert_eq!(told.keys(), ["result", "status", "bones", "morphs", "key_count"]);
     assert_eq!((told.text("result"), told.number("status"), told.number("key_count")), ("agree", 0, 3));
+}
+
+/// One key, and none.
+#[test]
+fn agree_on_little() {
+    let one = [1, 0, 0, 0, 1, 0, 0, 0, 0, 0, 0];
+    for (strip, words) in
+        [(&one[..], "1 bone track, 0 morph tracks, 1 key"), (&[0; 4], "0 bone tracks, 0 morph tracks, 0 keys")]
+    {
+        let path = file(&format!("compare little {}", strip.len()), strip);
+        assert_eq!(intake(&["compare", &path, &path]).text(), format!("agree: {words}\n"));
+    }
 }
 
 #[test]

@@ -6,6 +6,8 @@ mod generated;
 mod json;
 mod list;
 mod malformed;
+#[cfg(unix)]
+mod output;
 mod project;
 #[path = "../../../limdroven/tests/calls/sections.rs"]
 mod sections;

@@ -1,5 +1,7 @@
 //! `--model`: PMMv2 projects.
 
+use std::fs;
+
 use crate::command::{Ran, file, intake, intake_with, sample};
 use crate::json;
 use crate::sections::{bones, morphs, section};
@@ -40,6 +42,13 @@ fn failed(status: i32, error: &str) -> Ran {
 /// The second section stands behind the first, and the camera's and all else behind both.
 fn two_models() -> Vec<u8> {
     [project("0002", &[one_bone(7), one_bone(8)]), vec![255; 50]].concat()
+}
+
+/// A project whose front, read as a section, has no bones: its own model's long name is taken for other texts.
+fn front_reads() -> Vec<u8> {
+    let mut named = one_bone(7);
+    named.splice(1..2, [&[248][..], &[b'n'; 248]].concat());
+    project("0002", &[named])
 }
 
 #[test]
@@ -118,12 +127,40 @@ fn versions() {
     }
 }
 
-/// A project taken for a section is refused, with a hint.
+/// A project given as a section is not taken for one.
+#[test]
+fn without_a_model() {
+    let words = "this is a project: --model N takes its model N, --start 0 reads it as a section";
+    for project in [two_models(), b"Polygon Movie maker ".to_vec(), front_reads()] {
+        assert_eq!(intake_with(&["list", "-"], &project), failed(6, &format!("standard input: {words}")));
+        let told = json::line(intake_with(&["list", "-", "--json"], &project).text());
+        assert_eq!((told.keys(), told.text("result")), (vec!["result", "status", "file", "words"], "project"));
+    }
+    let (path, strip) = (file("project front reads", &front_reads()), file("project front strip", b"as it was"));
+    assert_eq!(intake(&["strip", &path, "-o", &strip]), failed(6, &format!("{path}: {words}")));
+    assert_eq!(fs::read(&strip).expect("read"), b"as it was");
+    // One byte of the signature less.
+    assert_eq!(intake_with(&["list", "-"], b"Polygon Movie maker").status, 3);
+}
+
+/// With `--start 0` every section is taken, also one that begins as a project does.
+#[test]
+fn read_as_a_section() {
+    let text = "model 0 0 561\nkeys 0 loose 0\n";
+    let ran = intake_with(&["list", "-", "--start", "0"], &front_reads());
+    assert_eq!(ran, Ran { status: 0, output: text.into(), error: String::new() });
+    assert_eq!(intake_with(&["strip", "-", "-o", "-", "--start", "0"], &front_reads()).output, [0; 4]);
+    assert_eq!(intake_with(&["list", "-", "--model", "0"], &front_reads()), listing(7, 55 + 430 + 248));
+}
+
+/// A project that is refused as a section, with `--start`.
 #[test]
 fn hint() {
-    let ran = intake_with(&["list", "-"], &two_models());
-    assert_eq!(ran.status, 3);
-    assert!(ran.error.ends_with(" (this looks like a project: --model N takes its model N)\n"), "{}", ran.error);
+    for start in ["0", "54", "1000000"] {
+        let ran = intake_with(&["list", "-", "--start", start], &two_models());
+        assert_eq!(ran.status, 3, "{start}");
+        assert!(ran.error.ends_with(" (this looks like a project: --model N takes its model N)\n"), "{}", ran.error);
+    }
 }
 
 /// Each section may have as many bytes as the library takes, whatever the project has.

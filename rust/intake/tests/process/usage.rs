@@ -21,12 +21,11 @@ fn arguments() {
     not_understood(&["list", "a", "--end", "1"], "no option is called --end");
     not_understood(&["list", "a", "--start", "1", "--model", "1"], "--start and --model exclude each other");
     not_understood(&["list", "a", "--start", "1", "--start", "1"], "--start is given twice");
-    for number in ["-1", "+1", "1.0", "0x1", "", "18446744073709551616"] {
-        not_understood(&["list", "a", "--start", number], &format!("--start {number} is no number from 0 on"));
-        not_understood(
-            &["strip", "a", "-o", "b", "--model", number],
-            &format!("--model {number} is no number from 0 on"),
-        );
+    let unread = ["-1", "+1", "1.0", "0x1", ""].map(|number| (number, "no number from 0 on"));
+    let large = ["18446744073709551616", "100000000000000000000000"].map(|number| (number, "too large"));
+    for (number, what) in unread.into_iter().chain(large) {
+        not_understood(&["list", "a", "--start", number], &format!("--start {number} is {what}"));
+        not_understood(&["strip", "a", "-o", "b", "--model", number], &format!("--model {number} is {what}"));
     }
     not_understood(&["strip", "a"], "strip: -o OUT is missing");
     not_understood(&["strip", "-o", "b"], "strip takes one file, not 0");
@@ -37,6 +36,27 @@ fn arguments() {
     let last = intake(&["strip", "a", "-o"]);
     assert_eq!((last.status, last.output.len()), (2, 0));
     assert!(last.error.starts_with("intake: -o lacks what follows it"), "{}", last.error);
+}
+
+/// Where standard output is to take the strip, nothing else goes there.
+#[test]
+fn beside_the_strip() {
+    for arguments in [
+        &["strip", "a", "b", "-o", "-", "--json"][..],
+        &["strip", "--output", "-", "--json"],
+        &["strip", "--json", "a", "-o", "-", "--start", "x"],
+        &["strip", "a", "--json", "-o", "-", "-o", "b"],
+        &["--json", "strip", "a", "-o", "-"],
+    ] {
+        let ran = intake(arguments);
+        assert_eq!((ran.status, ran.output.len()), (2, 0), "{arguments:?}");
+        assert_eq!(json::line(&ran.error).keys(), ["result", "status", "words"]);
+    }
+    for arguments in [&["strip", "a", "--json", "-o"][..], &["strip", "--json", "-o", "b", "--", "-o", "-"]] {
+        let ran = intake(arguments);
+        assert_eq!((ran.status, ran.error.len()), (2, 0), "{arguments:?}");
+        assert_eq!(json::line(ran.text()).text("result"), "usage");
+    }
 }
 
 /// Behind `--` every argument is a file.
@@ -59,10 +79,28 @@ fn help() {
     for status in ["0  done", "1  the strips differ", "2  ", "3  ", "4  ", "5  ", "6  "] {
         assert!(program.contains(&format!("\n  {status}")), "{status}");
     }
+    for result in ["usage", "file", "project"] {
+        assert!(program.contains(&format!("result \"{result}\"")), "{result}");
+    }
     assert!(list.starts_with("intake list FILE [--start N | --model N] [--json]"));
     assert!(strip.starts_with("intake strip FILE -o OUT [--start N | --model N] [--json]"));
     assert!(compare.starts_with("intake compare A B [--json]"));
     assert!(texts.iter().flat_map(|text| text.lines()).all(|line| line.len() <= 120));
+}
+
+/// Control characters are told as Rust writes them, all others as they are.
+#[test]
+fn control_characters() {
+    let (name, told) = ("usage \u{1b}[31m\n\t\u{9b}\u{7f}é'\\\"", "usage \\u{1b}[31m\\n\\t\\u{9b}\\u{7f}é'\\\"");
+    let path = place(name);
+    let ran = intake(&["list", &path]);
+    assert_eq!((ran.status, ran.output.len()), (4, 0));
+    assert!(ran.error.starts_with(&format!("intake: {}: ", path.replace(name, told))), "{:?}", ran.error);
+    let ran = intake(&["list", "--json", &path]);
+    assert!(!ran.text().trim_end().contains(char::is_control), "{:?}", ran.text());
+    assert_eq!(json::line(ran.text()).text("file"), path);
+    let error = "intake: no option is called -\\u{1b}; `intake --help` tells what is asked for\n";
+    assert_eq!(intake(&["list", "-\u{1b}"]).error, error);
 }
 
 #[test]

@@ -1,0 +1,72 @@
+//! The strip's file.
+
+use std::ffi::OsStr;
+use std::fs::{self, File, OpenOptions, Permissions};
+use std::io::{self, ErrorKind, Write};
+use std::path::{Path, PathBuf};
+use std::process;
+
+use crate::same;
+
+/// A failure leaves a file that was there as it was.
+pub fn write(output: &OsStr, bytes: &[u8]) -> io::Result<()> {
+    if same::is_standard_output(output) {
+        io::stdout().write_all(bytes)?;
+        return io::stdout().flush();
+    }
+    match replaceable(Path::new(output)) {
+        Some(path) => replace(&path, bytes),
+        None => fs::write(output, bytes),
+    }
+}
+
+/// The regular file that the name leads to, or the name itself where there is nothing yet. None for a pipe, a device or
+/// a link that leads nowhere: these are written directly.
+fn replaceable(output: &Path) -> Option<PathBuf> {
+    match fs::canonicalize(output) {
+        Ok(path) => path.is_file().then_some(path),
+        Err(_) => fs::symlink_metadata(output).is_err().then(|| output.to_owned()),
+    }
+}
+
+/// Writes a new file beside the old one, which takes its place once it is whole.
+fn replace(path: &Path, bytes: &[u8]) -> io::Result<()> {
+    let permissions = permissions(path)?;
+    let (beside, file) = create_beside(path)?;
+    let replaced = fill(file, permissions, bytes).and_then(|()| fs::rename(&beside, path));
+    if replaced.is_err() {
+        // The failure itself is told, whether or not this succeeds.
+        let _ = fs::remove_file(&beside);
+    }
+    replaced
+}
+
+/// Those of the old file, which must be open to writing, if there is one.
+fn permissions(path: &Path) -> io::Result<Option<Permissions>> {
+    match OpenOptions::new().write(true).open(path) {
+        Ok(file) => Ok(Some(file.metadata()?.permissions())),
+        Err(error) if error.kind() == ErrorKind::NotFound => Ok(None),
+        Err(error) => Err(error),
+    }
+}
+
+/// Under a name that is not taken.
+fn create_beside(path: &Path) -> io::Result<(PathBuf, File)> {
+    let mut number = 0;
+    loop {
+        let beside = path.with_file_name(format!(".intake-{}-{number}", process::id()));
+        match File::create_new(&beside) {
+            Err(error) if error.kind() == ErrorKind::AlreadyExists => number += 1,
+            created => return Ok((beside, created?)),
+        }
+    }
+}
+
+/// The file is closed when this is done, and what could not be stored is known.
+fn fill(mut file: File, permissions: Option<Permissions>, bytes: &[u8]) -> io::Result<()> {
+    if let Some(permissions) = permissions {
+        file.set_permissions(permissions)?;
+    }
+    file.write_all(bytes)?;
+    file.sync_all()
+}

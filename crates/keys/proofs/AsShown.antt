@@ -17,7 +17,7 @@ use Rattle.records.specs.declared.base.BaseBits.{BaseBits}
 use Rattle.records.specs.declared.pose.PoseBits.{PoseBits}
 use Rattle.records.specs.declared.bone.BoneBits.{BoneBits}
 use Rattle.records.specs.declared.morph.MorphBits.{MorphBits}
-use Rattle.clip.specs.Fields.{Initial, Additional}
+use Rattle.clip.specs.Fields.{Initial, Additional, BoneBody}
 use Rattle.clip.specs.Keys.{posed, floatAt}
 use Rattle.clip.specs.Section.{bytesAt, boneBody, morphBody, initialAt, additionalAt}
 use Rattle.keys.specs.Words.{words3, words4}
@@ -147,37 +147,44 @@ module _ (s : List ℕ) where
           next = x .link ∙ ap (λ (v : BaseBits). v .next) same;
         }
 
-  module _ (at : ℕ) (b : BoneBits) (end : ℕ) where
-    pub bone-shown : boneBits true s at ≡ fine b end → AdditionalShown (additionalAt boneBody s at) (b .base) × (posed (additionalAt boneBody s at .body) ≡ poseOf (b .pose))
-    unfolding boneBits additionalAt
-    bone-shown e =
+  -- A record of one kind, whose fields behind the base are read by `rest` and shown as its body.
+  module _ {B Bits : Type 0} (body : List ℕ → ℕ → B) (rest : BaseBits → Reader Bits) (base-of : Bits → BaseBits) (Shown : B → Bits → Type 0) (behind : (base : BaseBits) (from i : ℕ) (b : Bits) (next : ℕ) → from ≡ i → rest base s i ≡ fine b next → (base ≡ base-of b) × Shown (body s from) b) (at : ℕ) (b : Bits) (end : ℕ) where
+    additional-record : _>>=_ (baseBits true) rest s at ≡ fine b end → AdditionalShown (additionalAt body s at) (base-of b) × Shown (additionalAt body s at .body) b
+    unfolding additionalAt
+    additional-record e =
         let x = came (baseBits true s at) _ b end e in
         let to = additional-base at (x .value) (x .at) (x .first) .1 .to in
-        let rest = bone-rest (x .value) (at + 16) (x .at) b end (omega (arith, to)) (x .rest) in
-        (additional-shown boneBody at (x .value) (x .at) (b .base) (rest .0) (x .first), rest .1)
+        let fields = behind (x .value) (at + 16) (x .at) b end (omega (arith, to)) (x .rest) in
+        (additional-shown body at (x .value) (x .at) (base-of b) (fields .0) (x .first), fields .1)
 
-    pub initial-bone-shown : boneBits false s at ≡ fine b end → InitialShown (initialAt boneBody s at) (b .base) × (posed (initialAt boneBody s at .body) ≡ poseOf (b .pose))
-    unfolding boneBits initialAt
-    initial-bone-shown e =
+    initial-record : _>>=_ (baseBits false) rest s at ≡ fine b end → InitialShown (initialAt body s at) (base-of b) × Shown (initialAt body s at .body) b
+    unfolding initialAt
+    initial-record e =
         let x = came (baseBits false s at) _ b end e in
-        let rest = bone-rest (x .value) (at + 12) (x .at) b end (initial-base at (x .value) (x .at) (x .first) .to) (x .rest) in
-        (initial-shown boneBody at (x .value) (x .at) (b .base) (rest .0) (x .first), rest .1)
+        let fields = behind (x .value) (at + 12) (x .at) b end (initial-base at (x .value) (x .at) (x .first) .to) (x .rest) in
+        (initial-shown body at (x .value) (x .at) (base-of b) (fields .0) (x .first), fields .1)
 
-  module _ (at : ℕ) (b : MorphBits) (end : ℕ) where
-    pub morph-shown : morphBits true s at ≡ fine b end → AdditionalShown (additionalAt morphBody s at) (b .base) × (floatAt (additionalAt morphBody s at .body) 0 ≡ float (b .weight))
-    unfolding morphBits additionalAt
-    morph-shown e =
-        let x = came (baseBits true s at) _ b end e in
-        let to = additional-base at (x .value) (x .at) (x .first) .1 .to in
-        let rest = morph-rest (x .value) (at + 16) (x .at) b end (omega (arith, to)) (x .rest) in
-        (additional-shown morphBody at (x .value) (x .at) (b .base) (rest .0) (x .first), rest .1)
+  abbrev pub PoseShown : BoneBody → BoneBits → Type 0
+  PoseShown body b = posed body ≡ poseOf (b .pose)
 
-    pub initial-morph-shown : morphBits false s at ≡ fine b end → InitialShown (initialAt morphBody s at) (b .base) × (floatAt (initialAt morphBody s at .body) 0 ≡ float (b .weight))
-    unfolding morphBits initialAt
-    initial-morph-shown e =
-        let x = came (baseBits false s at) _ b end e in
-        let rest = morph-rest (x .value) (at + 12) (x .at) b end (initial-base at (x .value) (x .at) (x .first) .to) (x .rest) in
-        (initial-shown morphBody at (x .value) (x .at) (b .base) (rest .0) (x .first), rest .1)
+  abbrev pub WeightShown : List ℕ → MorphBits → Type 0
+  WeightShown body b = floatAt body 0 ≡ float (b .weight)
+
+  pub bone-shown : (at : ℕ) (b : BoneBits) (end : ℕ) → boneBits true s at ≡ fine b end → AdditionalShown (additionalAt boneBody s at) (b .base) × PoseShown (additionalAt boneBody s at .body) b
+  unfolding boneBits
+  bone-shown = additional-record boneBody boneRest (λ b. b .base) PoseShown bone-rest
+
+  pub initial-bone-shown : (at : ℕ) (b : BoneBits) (end : ℕ) → boneBits false s at ≡ fine b end → InitialShown (initialAt boneBody s at) (b .base) × PoseShown (initialAt boneBody s at .body) b
+  unfolding boneBits
+  initial-bone-shown = initial-record boneBody boneRest (λ b. b .base) PoseShown bone-rest
+
+  pub morph-shown : (at : ℕ) (b : MorphBits) (end : ℕ) → morphBits true s at ≡ fine b end → AdditionalShown (additionalAt morphBody s at) (b .base) × WeightShown (additionalAt morphBody s at .body) b
+  unfolding morphBits
+  morph-shown = additional-record morphBody morphRest (λ b. b .base) WeightShown morph-rest
+
+  pub initial-morph-shown : (at : ℕ) (b : MorphBits) (end : ℕ) → morphBits false s at ≡ fine b end → InitialShown (initialAt morphBody s at) (b .base) × WeightShown (initialAt morphBody s at .body) b
+  unfolding morphBits
+  initial-morph-shown = initial-record morphBody morphRest (λ b. b .base) WeightShown morph-rest
 
   -- The curves' offset.
   pub curves-shown : (at offset next : ℕ) → interpolationAt true s at ≡ fine offset next → additionalAt boneBody s at .body .interpolation ≡ bytesAt s offset 16

@@ -15,6 +15,7 @@ use crate::block;
 use crate::block::Block;
 use crate::lookup;
 use crate::lookup::Found;
+use crate::near;
 use flags::bits;
 
 // The least and the greatest of some frames.
@@ -102,15 +103,17 @@ pub fn flagged_again(
     let first = block::first_frame(s, b, track);
     meet(span, list, first);
     let mut link = block::first_link(s, b, track);
+    let mut near = near::unknown();
     let mut i = 0;
     while i < n {
-        match lookup::lookup(s, b, slots, link) {
+        match lookup::lookup(s, b, slots, link, near) {
             Found::Absent => return i,
             Found::At(p) => {
                 let frame = block::frame_at(s, b, p);
                 if meet(span, list, frame) {
                     return i + 1;
                 }
+                near = near::after(near, p);
                 link = block::next_at(s, b, p);
                 i = i + 1;
             }

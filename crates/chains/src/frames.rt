@@ -12,6 +12,7 @@ use crate::block::Block;
 use crate::close;
 use crate::lookup;
 use crate::lookup::Found;
+use crate::near;
 use crate::walk;
 use order::field::Field;
 use order::met;
@@ -66,9 +67,10 @@ fn met_again(s: &[u8], b: Block, slots: &[u16], track: usize, list: &mut [u16]) 
         return n + 1;
     }
     let mut link = block::first_link(s, b, track);
+    let mut near = near::unknown();
     let mut i = 0;
     while i < n {
-        match lookup::lookup(s, b, slots, link) {
+        match lookup::lookup(s, b, slots, link, near) {
             Found::Absent => return i,
             Found::At(p) => {
                 let frame = block::frame_at(s, b, p);
@@ -78,6 +80,7 @@ fn met_again(s: &[u8], b: Block, slots: &[u16], track: usize, list: &mut [u16]) 
                 if met::meet(s, frames, list, frame) {
                     return i + 1;
                 }
+                near = near::after(near, p);
                 link = block::next_at(s, b, p);
                 i = i + 1;
             }

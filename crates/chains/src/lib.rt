@@ -6,6 +6,7 @@ pub mod fault;
 pub mod frames;
 pub mod key;
 pub mod lookup;
+pub mod near;
 pub mod ready;
 pub mod scan;
 pub mod tracks;

@@ -3,7 +3,9 @@ ghost use mathlib.Core.Path.{_≡_};
 ghost use Rattle.clip.specs.Scan.{recordOf};
 ghost use Rattle.chains.specs.Block.{links};
 ghost use Rattle.chains.specs.Lookup.{Ordered, foundRead};
+use crate::block;
 use crate::block::Block;
+use crate::near::Near;
 use order::answer::Find;
 use order::search;
 
@@ -12,7 +14,7 @@ pub enum Found {
     Absent,
 }
 
-pub fn lookup(s: &[u8], b: Block, slots: &[u16], link: u32) -> Found
+fn by_index(s: &[u8], b: Block, slots: &[u16], link: u32) -> Found
     requires { ⌜ Ordered (now s) b (now slots) ⌝ }
     ensures { λ r. ⌜ foundRead r ≡ recordOf (links (now (s .entry)) b) link ⌝ }
 {
@@ -20,4 +22,18 @@ pub fn lookup(s: &[u8], b: Block, slots: &[u16], link: u32) -> Found
         Find::At(i) => Found::At(slots[i] as usize),
         Find::Absent => Found::Absent,
     }
+}
+
+// The guess first: no other record bears the link if the one that stands there does.
+pub fn lookup(s: &[u8], b: Block, slots: &[u16], link: u32, near: Near) -> Found
+    requires { ⌜ Ordered (now s) b (now slots) ⌝ }
+    ensures { λ r. ⌜ foundRead r ≡ recordOf (links (now (s .entry)) b) link ⌝ }
+{
+    let guess = near.next;
+    if guess < b.records.count {
+        if block::index_at(s, b, guess) == link {
+            return Found::At(guess);
+        }
+    }
+    by_index(s, b, slots, link)
 }

@@ -11,6 +11,7 @@ use crate::block;
 use crate::block::Block;
 use crate::lookup;
 use crate::lookup::Found;
+use crate::near;
 
 pub enum Walked {
     Ends(usize),
@@ -47,8 +48,9 @@ pub fn walk(s: &[u8], b: Block, slots: &[u16], track: usize, list: &mut [u16]) -
     let mut link = block::first_link(s, b, track);
     let mut expected = track as u32;
     let mut n = 0;
+    let mut near = near::unknown();
     while link != 0 {
-        match lookup::lookup(s, b, slots, link) {
+        match lookup::lookup(s, b, slots, link, near) {
             Found::Absent => return Walked::Missing(link),
             Found::At(p) => {
                 let previous = block::previous_at(s, b, p);
@@ -61,6 +63,7 @@ pub fn walk(s: &[u8], b: Block, slots: &[u16], track: usize, list: &mut [u16]) -
                 list[n] = p as u16;
                 n = n + 1;
                 expected = link;
+                near = near::after(near, p);
                 link = block::next_at(s, b, p);
             }
         }

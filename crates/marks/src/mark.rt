@@ -14,6 +14,7 @@ use chains::block;
 use chains::block::Block;
 use chains::lookup;
 use chains::lookup::Found;
+use chains::near;
 use flags::bits;
 
 // The records of one chain, and how many there are.
@@ -28,12 +29,14 @@ fn mark_chain(s: &[u8], b: Block, slots: &[u16], track: usize, marks: &mut [u16]
     let mark = (track + 1) as u16;
     let mut link = block::first_link(s, b, track);
     let mut n = 0;
+    let mut near = near::unknown();
     while link != 0 {
-        match lookup::lookup(s, b, slots, link) {
+        match lookup::lookup(s, b, slots, link, near) {
             Found::Absent => return n,
             Found::At(p) => {
                 marks[p] = mark;
                 n = n + 1;
+                near = near::after(near, p);
                 link = block::next_at(s, b, p);
             }
         }

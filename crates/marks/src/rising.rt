@@ -12,6 +12,7 @@ use chains::block::Block;
 use chains::fault::Met;
 use chains::lookup;
 use chains::lookup::Found;
+use chains::near;
 use chains::ready;
 use chains::tracks;
 use flags::bits;
@@ -57,8 +58,9 @@ fn mark_chain(s: &[u8], b: Block, slots: &[u16], track: usize, marks: &mut [u16]
     let mut link = block::first_link(s, b, track);
     let mut expected = track as u32;
     let mut n = 0;
+    let mut near = near::unknown();
     while link != 0 {
-        match lookup::lookup(s, b, slots, link) {
+        match lookup::lookup(s, b, slots, link, near) {
             Found::Absent => return Rising::Otherwise,
             Found::At(p) => {
                 if !behind(s, b, track, p, expected, frame) {
@@ -68,6 +70,7 @@ fn mark_chain(s: &[u8], b: Block, slots: &[u16], track: usize, marks: &mut [u16]
                 n = n + 1;
                 expected = link;
                 frame = block::frame_at(s, b, p);
+                near = near::after(near, p);
                 link = block::next_at(s, b, p);
             }
         }

@@ -15,14 +15,16 @@ use chains::block;
 use chains::block::Block;
 use chains::lookup;
 use chains::lookup::Found;
+use chains::near;
+use chains::near::Near;
 
 // The record that bears a link.
-fn position(s: &[u8], b: Block, slots: &[u16], link: u32) -> usize
+fn position(s: &[u8], b: Block, slots: &[u16], link: u32, near: Near) -> usize
     requires { ⌜ Ordered (now s) b (now slots) ⌝ }
     requires { ⌜ Borne (now s) b link ⌝ }
     ensures { λ r. ⌜ recordOf (links (now (s .entry)) b) link ≡ some r ⌝ }
 {
-    match lookup::lookup(s, b, slots, link) {
+    match lookup::lookup(s, b, slots, link, near) {
         Found::At(p) => p,
         Found::Absent => 0,
     }
@@ -39,10 +41,12 @@ pub fn measure(s: &[u8], b: Block, slots: &[u16], track: usize) -> usize
     let mut link = block::first_link(s, b, track);
     let mut records: usize = 0;
     let mut bytes: usize = 0;
+    let mut near = near::unknown();
     while link != 0 {
-        let p = position(s, b, slots, link);
+        let p = position(s, b, slots, link, near);
         bytes = bytes + key::record_length(s, b, p);
         records = records + 1;
+        near = near::after(near, p);
         link = block::next_at(s, b, p);
     }
     bytes
@@ -72,10 +76,12 @@ pub fn write_records(
     let mut link = block::first_link(s, b, track);
     let mut records: usize = 0;
     let mut end = place;
+    let mut near = near::unknown();
     while link != 0 {
-        let p = position(s, b, slots, link);
+        let p = position(s, b, slots, link, near);
         end = key::write_record(s, b, p, output, end);
         records = records + 1;
+        near = near::after(near, p);
         link = block::next_at(s, b, p);
     }
     Written { records, end }

@@ -11,16 +11,16 @@ use Rattle.chains.proofs.frames.met_again.Statement.{statement}
 use Rattle.chains.proofs.frames.met_again.Tie as tie
 
 abbrev Inv-loop : tie.InvT-loop
-Inv-loop s b slots track list₀ first frames n link₀ i₀ list link i = Again s b track list₀ list link i
+Inv-loop s b slots track list₀ first frames n link₀ near₀ i₀ list link near i = Again s b track list₀ list link i
 
 abbrev μ-loop : tie.MeasureT-loop
-μ-loop s b slots track list₀ first frames n link₀ i₀ list link i = n - i
+μ-loop s b slots track list₀ first frames n link₀ near₀ i₀ list link near i = n - i
 
 first-frame-requires : tie.Need-first-frame-requires Inv-loop μ-loop
 first-frame-requires c κs = search needs
 
-add-t13 : tie.Need-add-t13 Inv-loop μ-loop
-add-t13 c = search needs
+add-t14 : tie.Need-add-t14 Inv-loop μ-loop
+add-t14 c = search needs
 
 repeats-requires : tie.Need-repeats-requires Inv-loop μ-loop
 repeats-requires c κs =
@@ -46,11 +46,11 @@ first-link-requires c κs =
 
 loop-holds : tie.Need-loop-holds Inv-loop μ-loop
 loop-holds c =
-    let start = c .before .before .before .before .before .before .before .before .before .before .before in
-    again-starts (start .pre .0) (start .pre .1) (c .before .before .before .before .repeats .ensures .1) (c .first-link .ensures)
+    let start = c .before .before .before .before .before .before .before .before .before .before .before .before in
+    again-starts (start .pre .0) (start .pre .1) (c .before .before .before .before .before .repeats .ensures .1) (c .before .first-link .ensures)
 
 lookup-requires : tie.Need-lookup-requires Inv-loop μ-loop
-lookup-requires c κs = c .before .before .before .before .before .before .before .before .before .before .before .before .before .pre .0 .ordered
+lookup-requires c κs = c .before .before .before .before .before .before .before .before .before .before .before .before .before .before .pre .0 .ordered
 
 enum-told : tie.Need-enum-told Inv-loop μ-loop
 enum-told c = search needs
@@ -58,14 +58,14 @@ enum-told c = search needs
 same-length-2 : tie.Need-same-length-2 Inv-loop μ-loop
 same-length-2 c =
     let head = c .before .before .before .before in
-    let sort = head .before .before .before .before .before in
+    let sort = head .before .before .before .before .before .before in
     let start = sort .before .before .before .before .before .before .before in
     again-long (start .pre .0) (start .pre .1) (sort .repeats .ensures .1) (head .loop .inv)
 
 returns-2 : tie.Need-returns-2 Inv-loop μ-loop
 returns-2 c =
     let head = c .before .before .before .before in
-    let sort = head .before .before .before .before .before in
+    let sort = head .before .before .before .before .before .before in
     let start = sort .before .before .before .before .before .before .before in
     follow-absent (start .pre .0) (ap length (start .pre .1)) (head .loop .inv .followed) (c .before .before .before .loop-test .taken) _ (c .before .before .lookup .ensures) (c .enum-told .given .1)
 
@@ -75,70 +75,70 @@ enum-known-p c = search needs
 frame-at-requires : tie.Need-frame-at-requires Inv-loop μ-loop
 frame-at-requires c κs =
     let head = c .before .before .before .before .before in
-    let sort = head .before .before .before .before .before in
+    let sort = head .before .before .before .before .before .before in
     let start = sort .before .before .before .before .before .before .before in
     (start .pre .0 .ordered .fits, follow-below (start .pre .0) (ap length (start .pre .1)) (head .loop .inv .followed) (c .before .before .before .before .loop-test .taken) _ (c .before .before .before .lookup .ensures) (c .before .p .given .1))
 
 add-result-2 : tie.Need-add-result-2 Inv-loop μ-loop
-add-result-2 c = omega (arith, c .before .before .before .before .before .before .loop-test .taken, c .before .before .before .before .before .before .before .before .before .before .before .before .before .before .before .before .before .before .before .good)
+add-result-2 c = omega (arith, c .before .before .before .before .before .before .loop-test .taken, c .before .before .before .before .before .before .before .before .before .before .before .before .before .before .before .before .before .before .before .before .good)
 
 same-length-3 : tie.Need-same-length-3 Inv-loop μ-loop
 same-length-3 c =
     let head = c .before .before .before .before .before .before .before in
-    let sort = head .before .before .before .before .before in
+    let sort = head .before .before .before .before .before .before in
     let start = sort .before .before .before .before .before .before .before in
     again-long (start .pre .0) (start .pre .1) (sort .repeats .ensures .1) (head .loop .inv)
 
 returns-3 : tie.Need-returns-3 Inv-loop μ-loop
 returns-3 c =
     let head = c .before .before .before .before .before .before .before in
-    let sort = head .before .before .before .before .before in
+    let sort = head .before .before .before .before .before .before in
     let start = sort .before .before .before .before .before .before .before in
     again-first (start .pre .0) (start .pre .1) (sort .repeats .ensures .1) (head .loop .inv) (c .before .before .before .before .before .before .loop-test .taken) _ (c .before .before .before .before .before .lookup .ensures) (c .before .before .before .p .given .1) (c .before .frame-at .ensures) (sort .before .before .before .first-frame .ensures) (c .if2 .taken)
 
 meet-requires : tie.Need-meet-requires Inv-loop μ-loop
 meet-requires c κs =
     let head = c .before .before .before .before .before .before .before .before in
-    let sort = head .before .before .before .before .before in
+    let sort = head .before .before .before .before .before .before in
     let start = sort .before .before .before .before .before .before .before in
     (frame-field _ _ (start .pre .0 .ordered .fits), (head .loop .inv .met .below, again-rise (start .pre .0) (start .pre .1) (sort .repeats .ensures .1) (head .loop .inv)))
 
 add-result-3 : tie.Need-add-result-3 Inv-loop μ-loop
-add-result-3 c = omega (arith, c .before .before .before .before .before .before .before .before .before .before .before .loop-test .taken, c .before .before .before .before .before .before .before .before .before .before .before .before .before .before .before .before .before .before .before .before .before .before .before .before .good)
+add-result-3 c = omega (arith, c .before .before .before .before .before .before .before .before .before .before .before .loop-test .taken, c .before .before .before .before .before .before .before .before .before .before .before .before .before .before .before .before .before .before .before .before .before .before .before .before .before .good)
 
 same-length-4 : tie.Need-same-length-4 Inv-loop μ-loop
 same-length-4 c =
     let head = c .before .before .before .before .before .before .before .before .before .before .before .before in
-    let sort = head .before .before .before .before .before in
+    let sort = head .before .before .before .before .before .before in
     let start = sort .before .before .before .before .before .before .before in
     c .before .before .before .meet .ensures .length ∙ again-long (start .pre .0) (start .pre .1) (sort .repeats .ensures .1) (head .loop .inv)
 
 returns-4 : tie.Need-returns-4 Inv-loop μ-loop
 returns-4 c =
     let head = c .before .before .before .before .before .before .before .before .before .before .before .before in
-    let sort = head .before .before .before .before .before in
+    let sort = head .before .before .before .before .before .before in
     let start = sort .before .before .before .before .before .before .before in
     again-met (start .pre .0) (start .pre .1) (sort .repeats .ensures .1) (head .loop .inv) (c .before .before .before .before .before .before .before .before .before .before .before .loop-test .taken) _ (c .before .before .before .before .before .before .before .before .before .before .lookup .ensures) (c .before .before .before .before .before .before .before .before .p .given .1) (c .before .before .before .before .before .before .frame-at .ensures) (sort .before .before .before .first-frame .ensures) (c .before .before .before .meet .ensures) (c .if3 .taken)
 
 next-at-requires : tie.Need-next-at-requires Inv-loop μ-loop
 next-at-requires c κs =
-    let head = c .before .before .before .before .before .before .before .before .before .before .before .before in
-    let sort = head .before .before .before .before .before in
+    let head = c .before .before .before .before .before .before .before .before .before .before .before .before .before in
+    let sort = head .before .before .before .before .before .before in
     let start = sort .before .before .before .before .before .before .before in
-    (start .pre .0 .ordered .fits, follow-below (start .pre .0) (ap length (start .pre .1)) (head .loop .inv .followed) (c .before .before .before .before .before .before .before .before .before .before .before .loop-test .taken) _ (c .before .before .before .before .before .before .before .before .before .before .lookup .ensures) (c .before .before .before .before .before .before .before .before .p .given .1))
+    (start .pre .0 .ordered .fits, follow-below (start .pre .0) (ap length (start .pre .1)) (head .loop .inv .followed) (c .before .before .before .before .before .before .before .before .before .before .before .before .loop-test .taken) _ (c .before .before .before .before .before .before .before .before .before .before .before .lookup .ensures) (c .before .before .before .before .before .before .before .before .before .p .given .1))
 
 add-i : tie.Need-add-i Inv-loop μ-loop
-add-i c = omega (arith, c .before .before .before .before .before .before .before .before .before .before .before .before .loop-test .taken, c .before .before .before .before .before .before .before .before .before .before .before .before .before .before .before .before .before .before .before .before .before .before .before .before .before .good)
+add-i c = omega (arith, c .before .before .before .before .before .before .before .before .before .before .before .before .before .loop-test .taken, c .before .before .before .before .before .before .before .before .before .before .before .before .before .before .before .before .before .before .before .before .before .before .before .before .before .before .before .good)
 
 loop-less : tie.Need-loop-less Inv-loop μ-loop
 loop-less c = omega arith
 
 loop-again : tie.Need-loop-again Inv-loop μ-loop
 loop-again c =
-    let head = c .before .before .before .before .before .before .before .before .before .before .before .before .before in
-    let sort = head .before .before .before .before .before in
+    let head = c .before .before .before .before .before .before .before .before .before .before .before .before .before .before in
+    let sort = head .before .before .before .before .before .before in
     let start = sort .before .before .before .before .before .before .before in
-    again-more (start .pre .0) (start .pre .1) (sort .repeats .ensures .1) (head .loop .inv) (c .before .before .before .before .before .before .before .before .before .before .before .before .loop-test .taken) _ (c .before .before .before .before .before .before .before .before .before .before .before .lookup .ensures) (c .before .before .before .before .before .before .before .before .before .p .given .1) (c .before .before .before .before .before .before .before .frame-at .ensures) (sort .before .before .before .first-frame .ensures) (c .before .before .before .before .meet .ensures) (c .before .before .before .before .before .before .if2 .left) (c .before .if3 .left) (c .next-at .ensures)
+    again-more (start .pre .0) (start .pre .1) (sort .repeats .ensures .1) (head .loop .inv) (c .before .before .before .before .before .before .before .before .before .before .before .before .before .loop-test .taken) _ (c .before .before .before .before .before .before .before .before .before .before .before .before .lookup .ensures) (c .before .before .before .before .before .before .before .before .before .before .p .given .1) (c .before .before .before .before .before .before .before .before .frame-at .ensures) (sort .before .before .before .first-frame .ensures) (c .before .before .before .before .before .meet .ensures) (c .before .before .before .before .before .before .before .if2 .left) (c .before .before .if3 .left) (c .next-at .ensures)
 
 add-result-4 : tie.Need-add-result-4 Inv-loop μ-loop
 add-result-4 c = omega arith
@@ -146,16 +146,22 @@ add-result-4 c = omega arith
 same-length-5 : tie.Need-same-length-5 Inv-loop μ-loop
 same-length-5 c =
     let head = c .before in
-    let sort = head .before .before .before .before .before in
+    let sort = head .before .before .before .before .before .before in
     let start = sort .before .before .before .before .before .before .before in
     again-long (start .pre .0) (start .pre .1) (sort .repeats .ensures .1) (head .loop .inv)
 
 returns-5 : tie.Need-returns-5 Inv-loop μ-loop
 returns-5 c =
     let head = c .before in
-    let sort = head .before .before .before .before .before in
+    let sort = head .before .before .before .before .before .before in
     let start = sort .before .before .before .before .before .before .before in
     follow-none (start .pre .0) (ap length (start .pre .1)) (head .loop .inv .followed) (c .loop-test .left)
+
+unknown-requires : tie.Need-unknown-requires Inv-loop μ-loop
+unknown-requires c κs = tt
+
+after-requires : tie.Need-after-requires Inv-loop μ-loop
+after-requires c κs = tt
 
 pub met-again-spec : {M : Type 1} → statement M
 met-again-spec =
@@ -164,12 +170,13 @@ met-again-spec =
     Inv-loop
     μ-loop
     first-frame-requires
-    add-t13
+    add-t14
     repeats-requires
     add-result
     same-length
     returns
     first-link-requires
+    unknown-requires
     loop-holds
     lookup-requires
     enum-told
@@ -184,6 +191,7 @@ met-again-spec =
     add-result-3
     same-length-4
     returns-4
+    after-requires
     next-at-requires
     add-i
     loop-less

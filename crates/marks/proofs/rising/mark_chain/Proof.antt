@@ -17,14 +17,14 @@ use Rattle.marks.proofs.rising.mark_chain.Statement.{statement}
 use Rattle.marks.proofs.rising.mark_chain.Tie as tie
 
 abbrev Inv-loop : tie.InvT-loop
-Inv-loop s b slots track marks₀ mark frame₀ link₀ expected₀ n₀ marks frame link expected n = Seeing s b track marks₀ marks expected link frame n
+Inv-loop s b slots track marks₀ mark frame₀ link₀ expected₀ n₀ near₀ marks frame link expected n near = Seeing s b track marks₀ marks expected link frame n
 
 abbrev μ-loop : tie.MeasureT-loop
-μ-loop s b slots track marks₀ mark frame₀ link₀ expected₀ n₀ marks frame link expected n = b .records .count - n
+μ-loop s b slots track marks₀ mark frame₀ link₀ expected₀ n₀ near₀ marks frame link expected n near = b .records .count - n
 
 module _ (c : tie.After-known-told Inv-loop μ-loop) where
   abbrev start : tie.Start Inv-loop μ-loop
-  start = c .before .before .before .before .before .before .before .before .before .before .before .before .before .before
+  start = c .before .before .before .before .before .before .before .before .before .before .before .before .before .before .before
 
   abbrev position : ℕ
   position = c .before .p .given .0 .0
@@ -69,19 +69,19 @@ cast-expected : tie.Need-cast-expected Inv-loop μ-loop
 cast-expected c = let start = c .before .before .before .before .before .before .before .before in let few = start .pre .0 .fits .fewTracks in let lt = start .pre .1 .0 in omega (arith, few, lt)
 
 loop-holds : tie.Need-loop-holds Inv-loop μ-loop
-loop-holds c = let start = c .before .before .before .before .before .before .before .before in rising.begins _ _ _ _ (start .pre .0) (start .pre .1 .0) _ _ _ (c .first-link .ensures) (c .before .first-frame .ensures)
+loop-holds c = let start = c .before .before .before .before .before .before .before .before .before in rising.begins _ _ _ _ (start .pre .0) (start .pre .1 .0) _ _ _ (c .before .first-link .ensures) (c .before .before .first-frame .ensures)
 
 lookup-requires : tie.Need-lookup-requires Inv-loop μ-loop
-lookup-requires c κs = c .before .before .before .before .before .before .before .before .before .before .pre .0
+lookup-requires c κs = c .before .before .before .before .before .before .before .before .before .before .before .pre .0
 
 enum-told-3 : tie.Need-enum-told-3 Inv-loop μ-loop
 enum-told-3 c = search needs
 
 same-length : tie.Need-same-length Inv-loop μ-loop
-same-length c = let start = c .before .before .before .before .before .before .before .before .before .before .before .before .before in rising.same-length (start .args .s .now) (start .args .b) (start .args .track) _ (start .pre .0) (start .pre .1 .0) _ _ _ _ _ _ (c .before .before .before .before .loop .inv)
+same-length c = let start = c .before .before .before .before .before .before .before .before .before .before .before .before .before .before in rising.same-length (start .args .s .now) (start .args .b) (start .args .track) _ (start .pre .0) (start .pre .1 .0) _ _ _ _ _ _ (c .before .before .before .before .loop .inv)
 
 returns-2 : tie.Need-returns-2 Inv-loop μ-loop
-returns-2 c = let start = c .before .before .before .before .before .before .before .before .before .before .before .before .before in (tt, rising.same-length (start .args .s .now) (start .args .b) (start .args .track) _ (start .pre .0) (start .pre .1 .0) _ _ _ _ _ _ (c .before .before .before .before .loop .inv))
+returns-2 c = let start = c .before .before .before .before .before .before .before .before .before .before .before .before .before .before in (tt, rising.same-length (start .args .s .now) (start .args .b) (start .args .track) _ (start .pre .0) (start .pre .1 .0) _ _ _ _ _ _ (c .before .before .before .before .loop .inv))
 
 enum-known-p : tie.Need-enum-known-p Inv-loop μ-loop
 enum-known-p c = search needs
@@ -117,26 +117,32 @@ frame-at-requires : tie.Need-frame-at-requires Inv-loop μ-loop
 frame-at-requires c κs = (start (c .before .before) .pre .0 .fits, inside (c .before .before))
 
 next-at-requires : tie.Need-next-at-requires Inv-loop μ-loop
-next-at-requires c κs = (start (c .before .before .before) .pre .0 .fits, inside (c .before .before .before))
+next-at-requires c κs = (start (c .before .before .before .before) .pre .0 .fits, inside (c .before .before .before .before))
 
 loop-less : tie.Need-loop-less Inv-loop μ-loop
-loop-less c = let less = room (c .before .before) in omega (arith, less)
+loop-less c = let less = room (c .before .before .before) in omega (arith, less)
 
 loop-again : tie.Need-loop-again Inv-loop μ-loop
 loop-again c =
-    let e = c .before .before in
+    let e = c .before .before .before in
     let a = e .before .before in
-    rising.goes-on (start a .args .s .now) (start a .args .b) (start a .args .track) _ (start a .pre .0) (start a .pre .1 .0) _ _ _ _ _ _ (c .before .before .before .before .before .before .before .before .before .loop .inv) (c .before .before .before .before .before .before .before .before .loop-test .taken) (position a) (found a) (stands e) _ _ (c .next-at .ensures) (c .before .frame-at .ensures)
+    rising.goes-on (start a .args .s .now) (start a .args .b) (start a .args .track) _ (start a .pre .0) (start a .pre .1 .0) _ _ _ _ _ _ (c .before .before .before .before .before .before .before .before .before .before .loop .inv) (c .before .before .before .before .before .before .before .before .before .loop-test .taken) (position a) (found a) (stands e) _ _ (c .next-at .ensures) (c .before .before .frame-at .ensures)
 
 same-length-3 : tie.Need-same-length-3 Inv-loop μ-loop
-same-length-3 c = let start = c .before .before .before .before .before .before .before .before .before .before in rising.same-length (start .args .s .now) (start .args .b) (start .args .track) _ (start .pre .0) (start .pre .1 .0) _ _ _ _ _ _ (c .before .loop .inv)
+same-length-3 c = let start = c .before .before .before .before .before .before .before .before .before .before .before in rising.same-length (start .args .s .now) (start .args .b) (start .args .track) _ (start .pre .0) (start .pre .1 .0) _ _ _ _ _ _ (c .before .loop .inv)
 
 returns-4 : tie.Need-returns-4 Inv-loop μ-loop
 returns-4 c =
-    let start = c .before .before .before .before .before .before .before .before .before .before in
+    let start = c .before .before .before .before .before .before .before .before .before .before .before in
     let b = start .args .b in
-    let initial = sym (c .before .before .before .before .before .before .initial-key .ensures) ∙ ap (metRead (kindOf (b .kind)) (b .initials .count)) (c .before .before .before .before .enum-told2 .given .1) in
+    let initial = sym (c .before .before .before .before .before .before .before .initial-key .ensures) ∙ ap (metRead (kindOf (b .kind)) (b .initials .count)) (c .before .before .before .before .before .enum-told2 .given .1) in
     (rising.ends (start .args .s .now) b (start .args .track) _ (start .pre .0) (start .pre .1 .0) _ _ _ _ _ _ (c .before .loop .inv) initial (c .loop-test .left), rising.same-length (start .args .s .now) b (start .args .track) _ (start .pre .0) (start .pre .1 .0) _ _ _ _ _ _ (c .before .loop .inv))
+
+unknown-requires : tie.Need-unknown-requires Inv-loop μ-loop
+unknown-requires c κs = tt
+
+after-requires : tie.Need-after-requires Inv-loop μ-loop
+after-requires c κs = tt
 
 pub mark-chain-spec : {M : Type 1} → statement M
 mark-chain-spec =
@@ -153,6 +159,7 @@ mark-chain-spec =
     first-frame-requires
     first-link-requires
     cast-expected
+    unknown-requires
     loop-holds
     lookup-requires
     enum-told-3
@@ -166,6 +173,7 @@ mark-chain-spec =
     slice-write-marks
     add-n
     frame-at-requires
+    after-requires
     next-at-requires
     loop-less
     loop-again

@@ -1,6 +1,6 @@
 -- What is asked of one key, from what its frame and its body meet. Assumes nothing.
 use Prim.Native.Nat.{ℕ}
-use mathlib.Core.Bool.{Bool}
+use mathlib.Core.Bool.{Bool, false}
 use mathlib.Core.List.{List, [], _∷_}
 use mathlib.Core.Option.{Option, none, some}
 use mathlib.Core.Path.{_≡_, refl, sym, ap, _∙_}
@@ -12,8 +12,6 @@ use Rattle.clip.specs.Fields.{morph, refusalOf, signed, negative}
 use Rattle.clip.specs.Fields as Fields
 use Rattle.clip.specs.Keys.{bodyRefusal, floatAt}
 use Rattle.clip.specs.Section.{morphBody}
-use Rattle.keys.specs.Answers.{askedRead}
-use Rattle.keys.specs.declared.pose.Asked.{Asked}
 use Rattle.chains.specs.Block.{kindOf}
 use Rattle.chains.specs.Fault.{faultOf, metRead, askedAt, frameMeets, keyMeets}
 use Rattle.chains.specs.MorphKeys.{morphKeyRead, orRefused, morphKey}
@@ -37,13 +35,13 @@ module _ (s : List ℕ) (kind : Kind) (track frame body : ℕ) (repeated : Bool)
   pub frame-fine : m ≡ Met.Nothing → bodyRefusal (askedAt s kind body) track frame ≡ keyMeets s kind track frame body repeated
   frame-fine seen = sym (parts ∙ rw (sym (asked (kindOf kind) 0), seen))
 
-  -- And what is asked of the body gave a.
-  module _ (fine : m ≡ Met.Nothing) (a : Asked) (body-asked : askedRead a ≡ askedAt s kind body) where
-    pub body-fine : a ≡ Asked.Fine → none ≡ keyMeets s kind track frame body repeated
-    body-fine seen = sym (sym (frame-fine fine) ∙ rw (sym body-asked, seen))
+  -- And so much is asked of the body.
+  pub body-asked : m ≡ Met.Nothing → {o : Option ℕ} → o ≡ askedAt s kind body → bodyRefusal o track frame ≡ keyMeets s kind track frame body repeated
+  body-asked fine is = ap (λ (o : Option ℕ). bodyRefusal o track frame) is ∙ frame-fine fine
 
-    pub body-refused : {number : ℕ} → a ≡ Asked.Refused number → bodyRefusal (some number) track frame ≡ keyMeets s kind track frame body repeated
-    body-refused seen = sym (sym (frame-fine fine) ∙ rw (sym body-asked, seen))
+-- A frame that is not negative and not repeated, and a body with nothing against it.
+pub fine-key : (s : List ℕ) (kind : Kind) (frame body : ℕ) → negative frame ≡ false → none ≡ askedAt s kind body → (track : ℕ) → none ≡ keyMeets s kind track frame body false
+fine-key s kind frame body low is track = rw (low, sym is)
 
 -- A morph key is answered as it is asked.
 module _ (s : List ℕ) (track frame body : ℕ) (repeated : Bool) where

@@ -25,8 +25,9 @@ faultOf kind count (Fault.Cycle track link) = refusalOf kind 7 (pos track ∷ si
 faultOf kind count (Fault.Wrong track link found expected) = refusalOf kind 8 (pos track ∷ signed link ∷ signed found ∷ signed expected ∷ [])
 faultOf kind count (Fault.NegativeFrame track frame) = refusalOf kind 10 (pos track ∷ signed frame ∷ [])
 faultOf kind count (Fault.RepeatedFrame track frame) = refusalOf kind 11 (pos track ∷ signed frame ∷ [])
-faultOf kind count (Fault.Pose number track frame) = refusal number (pos (track .0) ∷ signed frame ∷ [])
-faultOf kind count (Fault.Weight number track frame) = refusal number (pos (track .0) ∷ signed frame ∷ [])
+faultOf kind count (Fault.Translation track frame) = refusal 12 (pos (track .0) ∷ signed frame ∷ [])
+faultOf kind count (Fault.Orientation track frame) = refusal 13 (pos (track .0) ∷ signed frame ∷ [])
+faultOf kind count (Fault.Weight track frame) = refusal 14 (pos (track .0) ∷ signed frame ∷ [])
 faultOf kind count (Fault.Disconnected records) = refusalOf kind 15 (pos records ∷ [])
 
 abbrev pub metRead : Fields.Kind → ℕ → Met → Option Refusal

@@ -14,8 +14,9 @@ pub enum Fault {
     Wrong(usize, u32, u32, u32),
     NegativeFrame(usize, u32),
     RepeatedFrame(usize, u32),
-    Pose(u8, BoneIndex, u32),
-    Weight(u8, MorphIndex, u32),
+    Translation(BoneIndex, u32),
+    Orientation(BoneIndex, u32),
+    Weight(MorphIndex, u32),
     Disconnected(usize),
 }
 

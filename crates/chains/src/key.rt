@@ -1,11 +1,13 @@
 // What is asked of one key of a track: 10, 11, and what is asked of its body.
+ghost use mathlib.Core.Bool.{true, false};
+ghost use mathlib.Core.Option.{none};
 ghost use mathlib.Core.Path.{_≡_};
 ghost use Prim.Native.Nat.{ℕ, _+_, _<_, _≤_};
 ghost use lib.ListN.{length};
-ghost use Rattle.clip.specs.Fields.{bone, morph};
+ghost use Rattle.clip.specs.Fields.{bone};
 ghost use Rattle.clip.specs.Fields as Fields;
 ghost use Rattle.chains.specs.Block.{kindOf, bodySize};
-ghost use Rattle.chains.specs.Fault.{metRead, frameMeets, keyMeets};
+ghost use Rattle.chains.specs.Fault.{metRead, frameMeets, askedAt, keyMeets};
 ghost use Rattle.chains.specs.MorphKeys.{morphKeyRead, morphKey};
 ghost use Rattle.chains.specs.declared.block.Kind.{Kind};
 use crate::block::Block;
@@ -43,7 +45,8 @@ fn bone_key(s: &[u8], track: BoneIndex, frame: u32, body: usize, repeated: bool)
         Met::Refused(fault) => Met::Refused(fault),
         Met::Nothing => match pose::bone_asked(s, body) {
             Asked::Fine => Met::Nothing,
-            Asked::Refused(number) => Met::Refused(Fault::Pose(number, track, frame)),
+            Asked::Translation => Met::Refused(Fault::Translation(track, frame)),
+            Asked::Orientation => Met::Refused(Fault::Orientation(track, frame)),
         },
     }
 }
@@ -56,9 +59,10 @@ pub fn morph_key(s: &[u8], track: MorphIndex, frame: u32, body: usize, repeated:
         Met::Refused(fault) => MorphKey::Refused(fault),
         Met::Nothing => {
             let weight = pose::weight_at(s, body);
-            match pose::weight_asked(weight) {
-                Asked::Fine => MorphKey::Key(frame, weight),
-                Asked::Refused(number) => MorphKey::Refused(Fault::Weight(number, track, frame)),
+            if pose::finite(weight) {
+                MorphKey::Key(frame, weight)
+            } else {
+                MorphKey::Refused(Fault::Weight(track, frame))
             }
         }
     }
@@ -77,4 +81,31 @@ pub fn key(s: &[u8], b: Block, track: usize, frame: u32, body: usize, repeated: 
             MorphKey::Refused(fault) => Met::Refused(fault),
         },
     }
+}
+
+// Whether nothing is against a key's body.
+fn body_fine(s: &[u8], kind: Kind, body: usize) -> bool
+    requires { ⌜ body + bodySize kind ≤ length (now s) ⌝ }
+    ensures { λ r. ⌜ (r ≡ true → none ≡ askedAt (now (s .entry)) kind body) ⌝ }
+{
+    match kind {
+        Kind::Bone => match pose::bone_asked(s, body) {
+            Asked::Fine => true,
+            Asked::Translation => false,
+            Asked::Orientation => false,
+        },
+        Kind::Morph => pose::finite(pose::weight_at(s, body)),
+    }
+}
+
+// Whether a key whose frame is not repeated meets nothing. Nearly every key does not; what one meets is worked out only where it does.
+pub fn fine(s: &[u8], b: Block, frame: u32, body: usize) -> bool
+    requires { ⌜ body + bodySize (b .kind) ≤ length (now s) ⌝ }
+    ensures { λ r. ⌜ (r ≡ true → (track : ℕ) → none ≡ keyMeets (now (s .entry)) (b .kind) track frame body false) ⌝ }
+{
+    if 2147483648 <= frame {
+        return false;
+    }
+    let kind = b.kind;
+    body_fine(s, kind, body)
 }

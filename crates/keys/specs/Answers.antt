@@ -3,7 +3,8 @@ use Prim.Native.Nat.{ℕ}
 use mathlib.Core.Option.{Option, none, some}
 use Rattle.keys.specs.declared.pose.Asked.{Asked}
 
--- The number of the refusal that a body meets.
+-- The number of the refusal that a pose meets.
 abbrev pub askedRead : Asked → Option ℕ
 askedRead Asked.Fine = none
-askedRead (Asked.Refused number) = some number
+askedRead Asked.Translation = some 12
+askedRead Asked.Orientation = some 13

@@ -12,7 +12,6 @@ ghost use Rattle.clip.specs.Keys.{
   poseAsked,
   posed,
   floatAt,
-  weightAsked,
 };
 ghost use Rattle.clip.specs.Section.{boneBody, morphBody};
 ghost use Rattle.keys.specs.Answers.{askedRead};
@@ -22,10 +21,11 @@ use records::pose;
 use records::pose::Pose;
 use records::pose::PoseBits;
 
-// Nothing against the body, or the number of the refusal that it meets.
+// Nothing against a pose, or 12 or 13; specs/Answers.antt gives the numbers.
 pub enum Asked {
     Fine,
-    Refused(u8),
+    Translation,
+    Orientation,
 }
 
 pub fn pose_at(s: &[u8], at: usize) -> Pose
@@ -88,22 +88,12 @@ pub fn pose_asked(pose: Pose) -> Asked
     ensures { λ r. ⌜ askedRead r ≡ poseAsked pose ⌝ }
 {
     if translation_fails(pose) {
-        return Asked::Refused(12);
+        return Asked::Translation;
     }
     if orientation_fails(pose) {
-        return Asked::Refused(13);
+        return Asked::Orientation;
     }
     Asked::Fine
-}
-
-pub fn weight_asked(weight: f32) -> Asked
-    ensures { λ r. ⌜ askedRead r ≡ weightAsked weight ⌝ }
-{
-    if finite(weight) {
-        Asked::Fine
-    } else {
-        Asked::Refused(14)
-    }
 }
 
 pub fn bone_asked(s: &[u8], at: usize) -> Asked

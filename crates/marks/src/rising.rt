@@ -2,7 +2,7 @@
 // Where it finds anything else it stops, and what is met first is looked for again in document 01's order.
 ghost use mathlib.Core.Bool.{true};
 ghost use mathlib.Core.Path.{_≡_};
-ghost use Prim.Native.Nat.{_<_};
+ghost use Prim.Native.Nat.{ℕ, _<_};
 ghost use lib.ListN.{length, replicate};
 ghost use Rattle.chains.specs.Block.{Fits, links};
 ghost use Rattle.chains.specs.Lookup.{Ordered};
@@ -10,11 +10,11 @@ ghost use Rattle.marks.specs.Rising.{Behind, ChainMarked, TracksMarked};
 use chains::block;
 use chains::block::Block;
 use chains::fault::Met;
+use chains::key;
 use chains::lookup;
 use chains::lookup::Found;
 use chains::near;
 use chains::ready;
-use chains::tracks;
 use flags::bits;
 
 // How many links were followed, if nothing else was found.
@@ -24,22 +24,20 @@ pub enum Rising {
 }
 
 // Whether a record stands rightly behind a key: its previous link, a later frame, and a key that meets nothing.
-fn behind(s: &[u8], b: Block, track: usize, p: usize, expected: u32, frame: u32) -> bool
+fn behind(s: &[u8], b: Block, p: usize, expected: u32, frame: u32) -> bool
     requires { ⌜ Fits (now s) b ⌝ }
-    requires { ⌜ track < b .initials .count ⌝ }
     requires { ⌜ p < b .records .count ⌝ }
-    ensures { λ r. ⌜ (r ≡ true → Behind (now (s .entry)) b track p expected frame) ⌝ }
+    ensures { λ r. ⌜ (r ≡ true → (track : ℕ) → Behind (now (s .entry)) b track p expected frame) ⌝ }
 {
     if block::previous_at(s, b, p) != expected {
         return false;
     }
-    if block::frame_at(s, b, p) <= frame {
+    let here = block::frame_at(s, b, p);
+    if here <= frame {
         return false;
     }
-    match tracks::record_key(s, b, track, p, false) {
-        Met::Nothing => true,
-        Met::Refused(_) => false,
-    }
+    let body = block::body_at(s, b, p);
+    key::fine(s, b, here, body)
 }
 
 fn mark_chain(s: &[u8], b: Block, slots: &[u16], track: usize, marks: &mut [u16]) -> Rising
@@ -63,7 +61,7 @@ fn mark_chain(s: &[u8], b: Block, slots: &[u16], track: usize, marks: &mut [u16]
         match lookup::lookup(s, b, slots, link, near) {
             Found::Absent => return Rising::Otherwise,
             Found::At(p) => {
-                if !behind(s, b, track, p, expected, frame) {
+                if !behind(s, b, p, expected, frame) {
                     return Rising::Otherwise;
                 }
                 marks[p] = mark;

@@ -43,11 +43,6 @@ fn say_wrong(track: usize, link: u32, found: u32, expected: u32) {
     say_bits(expected);
 }
 
-fn say_body(number: u8, track: usize, frame: u32) {
-    say_number(b"", number as u64);
-    say_track(b": ", track, frame);
-}
-
 fn say_below(index: u32, count: usize) {
     say(b"4:");
     say_bits(index);
@@ -69,8 +64,9 @@ fn say_fault(count: usize, fault: Fault) {
         Fault::Wrong(track, link, found, expected) => say_wrong(track, link, found, expected),
         Fault::NegativeFrame(track, frame) => say_track(b"10: ", track, frame),
         Fault::RepeatedFrame(track, frame) => say_track(b"11: ", track, frame),
-        Fault::Pose(number, bone, frame) => say_body(number, bone.0 as usize, frame),
-        Fault::Weight(number, morph, frame) => say_body(number, morph.0 as usize, frame),
+        Fault::Translation(bone, frame) => say_track(b"12: ", bone.0 as usize, frame),
+        Fault::Orientation(bone, frame) => say_track(b"13: ", bone.0 as usize, frame),
+        Fault::Weight(morph, frame) => say_track(b"14: ", morph.0 as usize, frame),
         Fault::Disconnected(records) => say_size(b"15: ", records),
     }
 }

@@ -33,8 +33,9 @@ fn fault_number(fault: Fault) -> u8
         Fault::Wrong(_, _, _, _) => 8,
         Fault::NegativeFrame(_, _) => 10,
         Fault::RepeatedFrame(_, _) => 11,
-        Fault::Pose(number, _, _) => number,
-        Fault::Weight(number, _, _) => number,
+        Fault::Translation(_, _) => 12,
+        Fault::Orientation(_, _) => 13,
+        Fault::Weight(_, _) => 14,
         Fault::Disconnected(_) => 15,
     }
 }

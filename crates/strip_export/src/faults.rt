@@ -42,13 +42,17 @@ pub fn refused(numbers: &mut [u64], kind: Kind, count: usize, fault: Fault) -> u
             values::put_on_track(numbers, kind, track, frame);
             11
         }
-        Fault::Pose(number, bone, frame) => {
+        Fault::Translation(bone, frame) => {
             values::put_body(numbers, bone.0, frame);
-            number as u32
+            12
         }
-        Fault::Weight(number, morph, frame) => {
+        Fault::Orientation(bone, frame) => {
+            values::put_body(numbers, bone.0, frame);
+            13
+        }
+        Fault::Weight(morph, frame) => {
             values::put_body(numbers, morph.0, frame);
-            number as u32
+            14
         }
         Fault::Disconnected(records) => {
             values::put_records(numbers, kind, records);

@@ -1,6 +1,12 @@
 -- `bone_key` meets its contract. Assumes nothing.
+use mathlib.Core.Path.{_≡_, sym, ap, _∙_}
+use Prim.Native.Nat.{ℕ}
+use mathlib.Core.Option.{Option}
+use Rattle.keys.specs.Answers.{askedRead}
+use Rattle.keys.specs.declared.pose.Asked.{Asked}
+use Rattle.chains.specs.Fault.{askedAt}
 use Rattle.chains.specs.declared.block.Kind.{Kind}
-use Rattle.chains.proofs.OneKey.{frame-refused, body-fine, body-refused}
+use Rattle.chains.proofs.OneKey.{frame-refused, body-asked}
 use borrow.Author.Needs.{needs}
 use Rattle.chains.proofs.key.bone_key.Statement.{statement}
 use Rattle.chains.proofs.key.bone_key.Tie as tie
@@ -20,8 +26,11 @@ bone-asked-requires c κs = search needs
 enum-told-2 : tie.Need-enum-told-2
 enum-told-2 c = search needs
 
-enum-known-number : tie.Need-enum-known-number
-enum-known-number c = search needs
+enum-told-3 : tie.Need-enum-told-3
+enum-told-3 c = search needs
+
+enum-told-4 : tie.Need-enum-told-4
+enum-told-4 c = search needs
 
 returns : tie.Need-returns
 returns c =
@@ -31,12 +40,17 @@ returns c =
 returns-2 : tie.Need-returns-2
 returns-2 c =
     let start = c .before .before .before .before .before .before .before in
-    λ count. body-fine (start .args .s .now) Kind.Bone (start .args .track .0) (start .args .frame) (start .args .body) (start .args .repeated) _ (c .before .before .before .before .before .frame-asked .ensures) (c .before .before .before .enum-told .given .1) _ (c .before .before .bone-asked .ensures) (c .enum-told2 .given .1)
+    λ count. body-asked (start .args .s .now) Kind.Bone (start .args .track .0) (start .args .frame) (start .args .body) (start .args .repeated) _ (c .before .before .before .before .before .frame-asked .ensures) (c .before .before .before .enum-told .given .1) (sym (ap askedRead (c .enum-told2 .given .1)) ∙ c .before .before .bone-asked .ensures)
 
 returns-3 : tie.Need-returns-3
 returns-3 c =
-    let start = c .before .before .before .before .before .before .before .before in
-    λ count. body-refused (start .args .s .now) Kind.Bone (start .args .track .0) (start .args .frame) (start .args .body) (start .args .repeated) _ (c .before .before .before .before .before .before .frame-asked .ensures) (c .before .before .before .before .enum-told .given .1) _ (c .before .before .before .bone-asked .ensures) (c .before .number .given .1)
+    let start = c .before .before .before .before .before .before .before in
+    λ count. body-asked (start .args .s .now) Kind.Bone (start .args .track .0) (start .args .frame) (start .args .body) (start .args .repeated) _ (c .before .before .before .before .before .frame-asked .ensures) (c .before .before .before .enum-told .given .1) (sym (ap askedRead (c .enum-told3 .given .1)) ∙ c .before .before .bone-asked .ensures)
+
+returns-4 : tie.Need-returns-4
+returns-4 c =
+    let start = c .before .before .before .before .before .before .before in
+    λ count. body-asked (start .args .s .now) Kind.Bone (start .args .track .0) (start .args .frame) (start .args .body) (start .args .repeated) _ (c .before .before .before .before .before .frame-asked .ensures) (c .before .before .before .enum-told .given .1) (sym (ap askedRead (c .enum-told4 .given .1)) ∙ c .before .before .bone-asked .ensures)
 
 pub bone-key-spec : {M : Type 1} → statement M
 bone-key-spec =
@@ -47,7 +61,9 @@ bone-key-spec =
     enum-told
     bone-asked-requires
     enum-told-2
-    enum-known-number
+    enum-told-3
+    enum-told-4
     returns
     returns-2
-    returns-3)
+    returns-3
+    returns-4)

@@ -1,8 +1,9 @@
 -- `morph_key` meets its contract. Assumes nothing.
 use mathlib.Core.Path.{ap, _∙_}
 use Rattle.clip.specs.Keys.{weightAsked}
+use Rattle.keys.proofs.Asking.{weight-fine, refused-14}
 use Rattle.chains.specs.declared.block.Kind.{Kind}
-use Rattle.chains.proofs.OneKey.{frame-refused, body-fine, body-refused, key-told, refusal-told}
+use Rattle.chains.proofs.OneKey.{frame-refused, body-asked, key-told, refusal-told}
 use borrow.Author.Needs.{needs}
 use Rattle.chains.proofs.key.morph_key.Statement.{statement}
 use Rattle.chains.proofs.key.morph_key.Tie as tie
@@ -19,14 +20,8 @@ enum-told c = search needs
 weight-at-requires : tie.Need-weight-at-requires
 weight-at-requires c κs = search needs
 
-weight-asked-requires : tie.Need-weight-asked-requires
-weight-asked-requires c κs = search needs
-
-enum-told-2 : tie.Need-enum-told-2
-enum-told-2 c = search needs
-
-enum-known-number : tie.Need-enum-known-number
-enum-known-number c = search needs
+finite-requires : tie.Need-finite-requires
+finite-requires c κs = search needs
 
 returns : tie.Need-returns
 returns c =
@@ -35,13 +30,13 @@ returns c =
 
 returns-2 : tie.Need-returns-2
 returns-2 c =
-    let start = c .before .before .before .before .before .before .before .before in
-    λ count. key-told (start .args .s .now) (start .args .track .0) (start .args .frame) (start .args .body) (start .args .repeated) (c .before .before .before .weight-at .ensures) (body-fine (start .args .s .now) Kind.Morph (start .args .track .0) (start .args .frame) (start .args .body) (start .args .repeated) _ (c .before .before .before .before .before .before .frame-asked .ensures) (c .before .before .before .before .enum-told .given .1) _ (c .before .before .weight-asked .ensures ∙ ap weightAsked (c .before .before .before .weight-at .ensures)) (c .enum-told2 .given .1))
+    let start = c .before .before .before .before .before .before .before in
+    λ count. key-told (start .args .s .now) (start .args .track .0) (start .args .frame) (start .args .body) (start .args .repeated) (c .before .before .weight-at .ensures) (body-asked (start .args .s .now) Kind.Morph (start .args .track .0) (start .args .frame) (start .args .body) (start .args .repeated) _ (c .before .before .before .before .before .frame-asked .ensures) (c .before .before .before .enum-told .given .1) (weight-fine _ _ (c .before .finite .ensures) (c .if1 .taken) ∙ ap weightAsked (c .before .before .weight-at .ensures)))
 
 returns-3 : tie.Need-returns-3
 returns-3 c =
-    let start = c .before .before .before .before .before .before .before .before .before in
-    λ count. refusal-told (start .args .s .now) (start .args .track .0) (start .args .frame) (start .args .body) (start .args .repeated) (body-refused (start .args .s .now) Kind.Morph (start .args .track .0) (start .args .frame) (start .args .body) (start .args .repeated) _ (c .before .before .before .before .before .before .before .frame-asked .ensures) (c .before .before .before .before .before .enum-told .given .1) _ (c .before .before .before .weight-asked .ensures ∙ ap weightAsked (c .before .before .before .before .weight-at .ensures)) (c .before .number .given .1))
+    let start = c .before .before .before .before .before .before .before in
+    λ count. refusal-told (start .args .s .now) (start .args .track .0) (start .args .frame) (start .args .body) (start .args .repeated) (body-asked (start .args .s .now) Kind.Morph (start .args .track .0) (start .args .frame) (start .args .body) (start .args .repeated) _ (c .before .before .before .before .before .frame-asked .ensures) (c .before .before .before .enum-told .given .1) (refused-14 _ _ (c .before .finite .ensures) (c .if1 .left) ∙ ap weightAsked (c .before .before .weight-at .ensures)))
 
 pub morph-key-spec : {M : Type 1} → statement M
 morph-key-spec =
@@ -51,9 +46,7 @@ morph-key-spec =
     enum-known-fault
     enum-told
     weight-at-requires
-    weight-asked-requires
-    enum-told-2
-    enum-known-number
+    finite-requires
     returns
     returns-2
     returns-3)

@@ -87,7 +87,7 @@ enum-known-p : tie.Need-enum-known-p Inv-loop μ-loop
 enum-known-p c = search needs
 
 behind-requires : tie.Need-behind-requires Inv-loop μ-loop
-behind-requires c κs = (start c .pre .0 .fits, (start c .pre .1 .0, inside c))
+behind-requires c κs = (start c .pre .0 .fits, inside c)
 
 same-length-2 : tie.Need-same-length-2 Inv-loop μ-loop
 same-length-2 c = same (c .before .before)
@@ -103,7 +103,7 @@ slice-write-marks c = let a = c .before .before in let below = inside a in let l
 
 module _ (c : tie.Else1 Inv-loop μ-loop) where
   stands : Behind (start (c .before .before) .args .s .now) (start (c .before .before) .args .b) (start (c .before .before) .args .track) (position (c .before .before)) (c .before .before .before .before .before .before .before .loop .expected) (c .before .before .before .before .before .before .before .loop .frame)
-  stands = c .before .behind .ensures (not-false _ (c .if1 .left))
+  stands = c .before .behind .ensures (not-false _ (c .if1 .left)) _
 
   room : c .before .before .before .before .before .before .before .loop .n < start (c .before .before) .args .b .records .count
   room =

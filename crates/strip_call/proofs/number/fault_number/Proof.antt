@@ -27,14 +27,17 @@ enum-told-7 c = search needs
 enum-told-8 : tie.Need-enum-told-8
 enum-told-8 c = search needs
 
-enum-known-fault : tie.Need-enum-known-fault
-enum-known-fault c = search needs
-
-enum-known-fault-2 : tie.Need-enum-known-fault-2
-enum-known-fault-2 c = search needs
-
 enum-told-9 : tie.Need-enum-told-9
 enum-told-9 c = search needs
+
+enum-told-10 : tie.Need-enum-told-10
+enum-told-10 c = search needs
+
+enum-told-11 : tie.Need-enum-told-11
+enum-told-11 c = search needs
+
+enum-told-12 : tie.Need-enum-told-12
+enum-told-12 c = search needs
 
 returns : tie.Need-returns
 returns c = λ kind count. rw (c .enum-told .given .1)
@@ -61,13 +64,16 @@ returns-8 : tie.Need-returns-8
 returns-8 c = λ kind count. rw (c .enum-told8 .given .1)
 
 returns-9 : tie.Need-returns-9
-returns-9 c = λ kind count. rw (c .before .fault .given .1)
+returns-9 c = λ kind count. rw (c .enum-told9 .given .1)
 
 returns-10 : tie.Need-returns-10
-returns-10 c = λ kind count. rw (c .before .fault2 .given .1)
+returns-10 c = λ kind count. rw (c .enum-told10 .given .1)
 
 returns-11 : tie.Need-returns-11
-returns-11 c = λ kind count. rw (c .enum-told9 .given .1)
+returns-11 c = λ kind count. rw (c .enum-told11 .given .1)
+
+returns-12 : tie.Need-returns-12
+returns-12 c = λ kind count. rw (c .enum-told12 .given .1)
 
 pub fault-number-spec : {M : Type 1} → statement M
 fault-number-spec =
@@ -81,9 +87,10 @@ fault-number-spec =
     enum-told-6
     enum-told-7
     enum-told-8
-    enum-known-fault
-    enum-known-fault-2
     enum-told-9
+    enum-told-10
+    enum-told-11
+    enum-told-12
     returns
     returns-2
     returns-3
@@ -94,4 +101,5 @@ fault-number-spec =
     returns-8
     returns-9
     returns-10
-    returns-11)
+    returns-11
+    returns-12)

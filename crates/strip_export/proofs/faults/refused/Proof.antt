@@ -60,20 +60,20 @@ enum-known-fault-9 c = search needs
 put-body-requires : tie.Need-put-body-requires
 put-body-requires c κs = search needs
 
-cast-result : tie.Need-cast-result
-cast-result c = search needs
-
 enum-known-fault-10 : tie.Need-enum-known-fault-10
 enum-known-fault-10 c = search needs
 
 put-body-requires-2 : tie.Need-put-body-requires-2
 put-body-requires-2 c κs = search needs
 
-cast-result-2 : tie.Need-cast-result-2
-cast-result-2 c = search needs
-
 enum-known-fault-11 : tie.Need-enum-known-fault-11
 enum-known-fault-11 c = search needs
+
+put-body-requires-3 : tie.Need-put-body-requires-3
+put-body-requires-3 c κs = search needs
+
+enum-known-fault-12 : tie.Need-enum-known-fault-12
+enum-known-fault-12 c = search needs
 
 put-records-requires : tie.Need-put-records-requires
 put-records-requires c κs = search needs
@@ -142,7 +142,13 @@ same-length-11 : tie.Need-same-length-11
 same-length-11 c = search needs
 
 returns-11 : tie.Need-returns-11
-returns-11 c = told (faultOf _ _) _ _ _ _ _ (c .before .before .before .before .before .fault11 .given .1) (refl, c .before .before .put-records .ensures)
+returns-11 c = told (faultOf _ _) _ _ _ _ _ (c .before .before .before .before .before .fault11 .given .1) (refl, c .before .before .put-body3 .ensures)
+
+same-length-12 : tie.Need-same-length-12
+same-length-12 c = search needs
+
+returns-12 : tie.Need-returns-12
+returns-12 c = told (faultOf _ _) _ _ _ _ _ (c .before .before .before .before .before .fault12 .given .1) (refl, c .before .before .put-records .ensures)
 
 pub refused-spec : {M : Type 1} → statement M
 refused-spec =
@@ -166,11 +172,11 @@ refused-spec =
     put-on-track-requires-4
     enum-known-fault-9
     put-body-requires
-    cast-result
     enum-known-fault-10
     put-body-requires-2
-    cast-result-2
     enum-known-fault-11
+    put-body-requires-3
+    enum-known-fault-12
     put-records-requires
     same-length
     returns
@@ -193,4 +199,6 @@ refused-spec =
     same-length-10
     returns-10
     same-length-11
-    returns-11)
+    returns-11
+    same-length-12
+    returns-12)

@@ -9,7 +9,8 @@ use borrow.Author.Tests.{le-leb, lt-leb}
 use lib.ListN.{replicate}
 use Rattle.layout.specs.Records.{size}
 use Rattle.layout.proofs.Sizes.{size-run}
-use Rattle.layout.proofs.Blocks.{place, runPlace, place-run, run-whole, run-short, pos-of-mul}
+use Rattle.layout.specs.Blocks.{place, runPlace}
+use Rattle.layout.proofs.Blocks.{place-run, run-whole, run-short, pos-of-mul}
 use Rattle.binary.specs.Items.{widths, run, RunSize, PlaceInRun}
 use Rattle.binary.specs.declared.blocks.Run.{Run}
 use Rattle.binary.specs.declared.blocks.Items.{Items}

@@ -8,7 +8,8 @@ use lib.ListN.{length}
 use Rattle.layout.specs.Walk.{Reader, fine, refusedAt, times, items}
 use Rattle.layout.specs.Records.{size}
 use Rattle.layout.proofs.Steps.{short}
-use Rattle.layout.proofs.Blocks.{place, place-le, times-whole, times-short}
+use Rattle.layout.specs.Blocks.{place}
+use Rattle.layout.proofs.Blocks.{place-le, times-whole, times-short}
 
 pub skip-none : {A : Type 0} (n : ℕ) (m : Reader A) (s : List ℕ) (at : ℕ) → n ≡ 0 → fine tt at ≡ times n m s at
 unfolding times

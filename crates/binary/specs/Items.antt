@@ -3,7 +3,7 @@ use Prim.Native.Nat.{ℕ, _*_, _<_, _≤_}
 use mathlib.Core.List.{List, [], _∷_, _++_}
 use mathlib.Core.Path.{_≡_}
 use lib.ListN.{replicate}
-use Rattle.layout.proofs.Blocks.{runPlace}
+use Rattle.layout.specs.Blocks.{runPlace}
 use Rattle.binary.specs.declared.blocks.Run.{Run}
 use Rattle.binary.specs.declared.blocks.Items.{Items}
 

@@ -3,7 +3,7 @@ ghost use mathlib.Core.Path.{_≡_};
 ghost use Prim.Native.Nat.{_+_, _-_, _*_, _≤_};
 ghost use Rattle.layout.specs.Walk.{items as itemsOf, times as timesOf};
 ghost use Rattle.layout.specs.Records.{size};
-ghost use Rattle.layout.proofs.Blocks.{place};
+ghost use Rattle.layout.specs.Blocks.{place};
 ghost use Rattle.binary.specs.Answers.{skipped};
 ghost use Rattle.binary.specs.Items.{widths, RunSize, PlaceInRun};
 use crate::numbers::Skipped;

@@ -17,12 +17,12 @@ use Rattle.order.specs.Sorted.{times}
 use Rattle.order.proofs.Times.{Place, place-of, equal-or-not}
 use Rattle.order.proofs.Unique.{Strictly, strictly-unique}
 use Rattle.order.proofs.Laws.{within-block}
-use Rattle.clip.specs.Scan.{recordOf}
+use Rattle.clip.specs.Scan.{recordOf, Indexed}
 use Rattle.clip.specs.First.{given}
 use Rattle.clip.specs.Fields.{Records}
 use Rattle.clip.specs.Section.{additionalAt}
 use Rattle.clip.proofs.First.{none-first, none-given}
-use Rattle.clip.proofs.Indexed.{Indexed, of-record}
+use Rattle.clip.proofs.Indexed.{of-record}
 use Rattle.strip.specs.Work.{inserted, byIndex}
 use Rattle.chains.specs.Block.{Fits, links}
 use Rattle.chains.specs.declared.block.Block.{Block}

@@ -3,7 +3,7 @@ use Prim.Native.Nat.{ℕ}
 use mathlib.Core.List.{List}
 use mathlib.Core.Option.{Option, none, some}
 use mathlib.Core.Path.{_≡_}
-use Rattle.clip.proofs.Indexed.{Indexed}
+use Rattle.clip.specs.Scan.{Indexed}
 use Rattle.strip.specs.Work.{byIndex}
 use Rattle.chains.specs.Block.{Fits, links}
 use Rattle.chains.specs.declared.block.Block.{Block}

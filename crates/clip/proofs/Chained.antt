@@ -13,7 +13,7 @@ use Rattle.clip.specs.First.{member}
 use Rattle.clip.specs.Fields.{Records}
 use Rattle.clip.proofs.First.{contrary, or-true}
 use Rattle.clip.proofs.Counting.{Distinct, AllBelow}
-use Rattle.clip.proofs.Indexed.{Indexed}
+use Rattle.clip.specs.Scan.{Indexed}
 
 -- Where a member of a list stands.
 pub record Place (p : ℕ) (ps : List ℕ) : Type 0 where

@@ -12,11 +12,11 @@ use lib.ListN.{length}
 use Rattle.layout.specs.Walk.{Refusal, Answer, answered, declined}
 use Rattle.clip.specs.First.{given, _or_, member}
 use Rattle.clip.specs.Fields.{Records, Kind, refusalOf, signed}
-use Rattle.clip.specs.Scan.{recordOf}
+use Rattle.clip.specs.Scan.{recordOf, Indexed}
 use Rattle.clip.specs.Chain.{unless, found, with, follow, chain}
 use Rattle.clip.proofs.First.{contrary}
 use Rattle.clip.proofs.Counting.{Distinct, distinct-length}
-use Rattle.clip.proofs.Indexed.{Indexed, record-of, of-record}
+use Rattle.clip.proofs.Indexed.{record-of, of-record}
 use Rattle.clip.proofs.Chained.{Chained, all-below, no-repeats}
 
 pub answer-is : {A : Type 0} {a b : A} → answered a ≡ answered b → a ≡ b

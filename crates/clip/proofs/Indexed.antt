@@ -11,15 +11,8 @@ use lib.Dec.{eqb, ltb}
 use lib.IntN.{pos}
 use Rattle.clip.specs.First.{given, _or_, any}
 use Rattle.clip.specs.Fields.{Records, Kind, refusalOf, signed, negative}
-use Rattle.clip.specs.Scan.{indexRefusal, scan, recordOf}
+use Rattle.clip.specs.Scan.{indexRefusal, scan, recordOf, Indexed}
 use Rattle.clip.proofs.First.{or-none, none-or, given-none, none-given, given-some, first-none, none-first, first-some, first-only, any-false, false-any}
-
-module _ {B : Type 0} (r : Records B) where
-  -- "an index not below its kind's count", which a negative one is, and no two alike
-  pub record Indexed : Type 0 where
-    pub positive : (p : ℕ) → p < r .additional → r .at p .index < 2147483648
-    pub above : (p : ℕ) → p < r .additional → r .tracks ≤ r .at p .index
-    pub apart : (p q : ℕ) → p < r .additional → q < r .additional → r .at p .index ≡ r .at q .index → p ≡ q
 
 module _ {B : Type 0} (kind : Kind) (r : Records B) where
   record Passed (p : ℕ) : Type 0 where

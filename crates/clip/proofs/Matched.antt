@@ -17,7 +17,7 @@ use Rattle.clip.specs.Build.{recordKey, keys, buildRefusal}
 use Rattle.clip.specs.Matched.{Matched, UnpairedIdle}
 use Rattle.clip.proofs.First.{contrary, or-true, true-or, any-true, any-false}
 use Rattle.clip.proofs.Counting.{AllBelow}
-use Rattle.clip.proofs.Indexed.{Indexed}
+use Rattle.clip.specs.Scan.{Indexed}
 use Rattle.clip.proofs.Chained.{Chained, all-below}
 use Rattle.clip.proofs.Follow.{chain-is, answer-is}
 use Rattle.clip.proofs.Sound.{KeysPass, keysOf, Sound, sound, builds, chain-of}

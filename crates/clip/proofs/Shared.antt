@@ -12,14 +12,14 @@ use Rattle.layout.specs.Walk.{Refusal, refusal, Answer, answered, declined}
 use Rattle.section.specs.declared.model.Model.{Model}
 use Rattle.clip.specs.First.{given, _or_, first, any, member}
 use Rattle.clip.specs.Fields.{BoneBody, Records, Kind, bone, morph, refusalOf, signed, negative}
-use Rattle.clip.specs.Scan.{indexRefusal, scan}
+use Rattle.clip.specs.Scan.{indexRefusal, scan, Indexed}
 use Rattle.clip.specs.Chain.{unless, found, with, follow, chain}
 use Rattle.clip.specs.Keys.{Key, KeyTest, keyTest, bodyRefusal, finite, translationFails, orientationFails, poseAsked, posed, weightAsked, floatAt, boneTest, morphTest}
 use Rattle.clip.specs.Build.{initialKey, recordKey, positions, chainRefusal, chainOf, reachedBefore, disconnected, recordsRefusal, trackRefusal, buildRefusal}
 use Rattle.clip.specs.Section.{bones, morphs, clipRefusal}
 use Rattle.clip.specs.Scan.{recordOf}
 use Rattle.clip.proofs.First.{contrary, true-or, false-any}
-use Rattle.clip.proofs.Indexed.{Indexed, scanned}
+use Rattle.clip.proofs.Indexed.{scanned}
 use Rattle.clip.proofs.Chained.{one-track}
 use Rattle.clip.proofs.Follow.{is-chain}
 

@@ -12,13 +12,13 @@ use lib.IntN.{pos}
 use Rattle.layout.specs.Walk.{Refusal, Answer, answered, declined}
 use Rattle.clip.specs.First.{given, _or_, first, member}
 use Rattle.clip.specs.Fields.{Records, Kind, refusalOf, signed}
-use Rattle.clip.specs.Scan.{scan}
+use Rattle.clip.specs.Scan.{scan, Indexed}
 use Rattle.clip.specs.Chain.{chain}
 use Rattle.clip.specs.Keys.{Key, KeyTest}
 use Rattle.clip.specs.Build.{initialKey, recordKey, positions, chainRefusal, chainOf, reachedBefore, reached, bothLinksZero, disconnected, recordsRefusal, trackRefusal, buildRefusal}
 use Rattle.clip.proofs.First.{contrary, true-or, or-none, none-or, given-none, none-given, first-none, none-first, any-false, false-any}
 use Rattle.clip.proofs.Counting.{none-pass, number-zero}
-use Rattle.clip.proofs.Indexed.{Indexed, scanned, scans}
+use Rattle.clip.proofs.Indexed.{scanned, scans}
 use Rattle.clip.proofs.Chained.{Chained, one-track}
 use Rattle.clip.proofs.Follow.{chain-is, is-chain}
 

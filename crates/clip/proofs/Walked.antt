@@ -16,10 +16,10 @@ use lib.Seq.{getD-append-seam}
 use Rattle.layout.specs.Walk.{Answer, answered, declined}
 use Rattle.clip.specs.First.{member}
 use Rattle.clip.specs.Fields.{Records, Kind, refusalOf, signed}
-use Rattle.clip.specs.Scan.{recordOf}
+use Rattle.clip.specs.Scan.{recordOf, Indexed}
 use Rattle.clip.specs.Chain.{with, follow, chain}
 use Rattle.clip.proofs.Counting.{Distinct, AllBelow, distinct-length}
-use Rattle.clip.proofs.Indexed.{Indexed, of-record}
+use Rattle.clip.proofs.Indexed.{of-record}
 use Rattle.clip.proofs.Chained.{member-place, one-place, path-distinct, Linked, path, closed}
 use Rattle.clip.proofs.Follow.{Fresh, fresh-nil, fresh-cons, chain-is}
 

@@ -1,8 +1,9 @@
 -- Document 01, module 3 and "Turned down": the index scan of the additional records, in file order, and the record of an index.
 -- Definitions only.
-use Prim.Native.Nat.{ℕ}
+use Prim.Native.Nat.{ℕ, _≤_, _<_}
 use mathlib.Core.List.{[], _∷_}
 use mathlib.Core.Option.{Option}
+use mathlib.Core.Path.{_≡_}
 use lib.Dec.{eqb, ltb}
 use lib.IntN.{pos}
 use Rattle.layout.specs.Walk.{Refusal}
@@ -24,3 +25,11 @@ module _ {B : Type 0} (kind : Kind) (r : Records B) where
 -- The position of the record that bears an index.
 unfoldable pub recordOf : {B : Type 0} → Records B → ℕ → Option ℕ
 recordOf r index = first (r .additional) (λ p. given (eqb (r .at p .index) index) p)
+
+-- What the index scan of records that pass it leaves known.
+module _ {B : Type 0} (r : Records B) where
+  -- "an index not below its kind's count", which a negative one is, and no two alike
+  pub record Indexed : Type 0 where
+    pub positive : (p : ℕ) → p < r .additional → r .at p .index < 2147483648
+    pub above : (p : ℕ) → p < r .additional → r .tracks ≤ r .at p .index
+    pub apart : (p q : ℕ) → p < r .additional → q < r .additional → r .at p .index ≡ r .at q .index → p ≡ q

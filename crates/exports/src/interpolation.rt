@@ -2,7 +2,8 @@
 ghost use Rattle.section.specs.Limits.{edition1};
 ghost use Rattle.numbers.specs.Answers.{Hands};
 ghost use mathlib.Core.Path.{_≡_};
-ghost use Rattle.lists.specs.Interpolation.{boneInterpolation, curvesOr};
+ghost use Rattle.lists.specs.Interpolation.{curvesOr};
+ghost use Rattle.lists.specs.Keyframes.{boneKeyframe};
 ghost use Rattle.numbers.specs.Put.{put};
 ghost use Rattle.tracks.specs.Camera.{cameraKeyframe, curvesPart};
 ghost use Rattle.exports.specs.Curves.{curveBytes};
@@ -40,7 +41,7 @@ pub extern "C" fn limdroven_bone_interpolation(
     number: usize,
     output: &mut [u8],
 ) -> usize
-    ensures { λ r. ⌜ Hands (curveBytes (curvesOr (boneInterpolation edition1 «include_index» number (now (section .entry)) start) (now (section .entry)))) (now (output .entry)) r (now (output .exit)) ⌝ }
+    ensures { λ r. ⌜ Hands (curveBytes (curvesOr (boneKeyframe edition1 «include_index» number (now (section .entry)) start) (now (section .entry)))) (now (output .entry)) r (now (output .exit)) ⌝ }
 {
     let curves = lists::interpolation::bone_interpolation(section, start, include_index, number);
     let x = curves[0];

@@ -4,15 +4,14 @@ use Prim.Native.Nat.{ℕ, _+_}
 use native.Mathlib.Omega.{arith}
 use mathlib.Core.Bool.{Bool, true, false}
 use mathlib.Core.List.{List}
-use mathlib.Core.Path.{_≡_, sym, ap, _∙_}
+use mathlib.Core.Path.{_≡_, refl, sym, ap, _∙_}
 use Rattle.layout.specs.Walk.{Reader, _>>=_, _>>_, give, fine, u32At, u32, bool, block}
-use Rattle.layout.proofs.Inversion.{Came, came, same-value}
+use Rattle.layout.proofs.Inversion.{Came, came, Was, item-was}
 use Rattle.binary.specs.Groups.{u32x3}
 use Rattle.binary.specs.declared.groups.Bits3.{Bits3}
 use Rattle.records.specs.Base.{baseBits}
 use Rattle.records.specs.Pose.{poseBits, poseOf, float}
 use Rattle.records.specs.Keyframes.{boneBits, morphBits}
-use Rattle.records.specs.Curves.{interpolationAt}
 use Rattle.records.specs.declared.base.BaseBits.{BaseBits}
 use Rattle.records.specs.declared.pose.PoseBits.{PoseBits}
 use Rattle.records.specs.declared.bone.BoneBits.{BoneBits}
@@ -22,7 +21,7 @@ use Rattle.clip.specs.Keys.{posed, floatAt}
 use Rattle.clip.specs.Section.{bytesAt, boneBody, morphBody, initialAt, additionalAt}
 use Rattle.keys.specs.Words.{words3, words4}
 use Rattle.keys.proofs.Bodies.{pose-is, weight-is}
-use Rattle.keys.proofs.ItemsRead.{Was, item-was, number-was, three-were, pose-was}
+use Rattle.keys.proofs.ItemsRead.{number-was, three-were, pose-was}
 
 -- An additional record's base, and an initial one's, whose previous link is no build field.
 pub record AdditionalShown {B : Type 0} (r : Additional B) (b : BaseBits) : Type 0 where
@@ -186,19 +185,17 @@ module _ (s : List ℕ) where
   unfolding morphBits
   initial-morph-shown = initial-record morphBody morphRest (λ b. b .base) WeightShown morph-rest
 
-  -- The curves' offset.
-  pub curves-shown : (at offset next : ℕ) → interpolationAt true s at ≡ fine offset next → additionalAt boneBody s at .body .interpolation ≡ bytesAt s offset 16
-  unfolding interpolationAt additionalAt boneBody
-  curves-shown at offset next e =
-      let x = came (baseBits true s at) _ offset next e in
-      let c = came (block 16 s (x .at)) _ offset next (x .rest) in
-      let to = additional-base at (x .value) (x .at) (x .first) .1 .to in
-      let same = same-value (c .rest) in
-      ap (λ (k : ℕ). bytesAt s k 16) {x = at + 16} {y = offset} (omega (arith, to, same))
+  -- The curves begin the payload.
+  pub curves-shown : (at : ℕ) (b : BoneBits) (next : ℕ) → boneBits true s at ≡ fine b next → additionalAt boneBody s at .body .interpolation ≡ bytesAt s (b .base .«payload_offset») 16
+  unfolding boneBits additionalAt boneBody
+  curves-shown at b next e =
+      let x = came (baseBits true s at) _ b next e in
+      let payload = additional-base at (x .value) (x .at) (x .first) .1 .payload in
+      let same = ap (λ (v : BaseBits). v .«payload_offset») (bone-rest (x .value) (x .at) (x .at) b next refl (x .rest) .0) in
+      ap (λ (k : ℕ). bytesAt s k 16) {x = at + 16} {y = b .base .«payload_offset»} (omega (arith, payload, same))
 
-  pub initial-curves-shown : (at offset next : ℕ) → interpolationAt false s at ≡ fine offset next → initialAt boneBody s at .body .interpolation ≡ bytesAt s offset 16
-  unfolding interpolationAt initialAt boneBody
-  initial-curves-shown at offset next e =
-      let x = came (baseBits false s at) _ offset next e in
-      let c = came (block 16 s (x .at)) _ offset next (x .rest) in
-      ap (λ (k : ℕ). bytesAt s k 16) (initial-base at (x .value) (x .at) (x .first) .to ∙ same-value (c .rest))
+  pub initial-curves-shown : (at : ℕ) (b : BoneBits) (next : ℕ) → boneBits false s at ≡ fine b next → initialAt boneBody s at .body .interpolation ≡ bytesAt s (b .base .«payload_offset») 16
+  unfolding boneBits initialAt boneBody
+  initial-curves-shown at b next e =
+      let x = came (baseBits false s at) _ b next e in
+      ap (λ (k : ℕ). bytesAt s k 16) (initial-base at (x .value) (x .at) (x .first) .payload ∙ ap (λ (v : BaseBits). v .«payload_offset») (bone-rest (x .value) (x .at) (x .at) b next refl (x .rest) .0))

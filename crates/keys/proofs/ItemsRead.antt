@@ -1,32 +1,16 @@
 -- Items that were read: their values, and the offset behind them. Assumes nothing.
 use Prim.Native.Nat.{ℕ, _+_}
 use native.Mathlib.Omega.{arith}
-use mathlib.Core.Bool.{Bool, true, false, cond}
 use mathlib.Core.List.{List}
 use mathlib.Core.Path.{_≡_, ap, _∙_}
-use lib.Dec.{leb}
-use lib.ListN.{length}
-use Rattle.layout.specs.Walk.{fine, refusedAt, item, u32At, u32}
-use Rattle.layout.proofs.Inversion.{Came, came}
+use Rattle.layout.specs.Walk.{fine, u32At, u32}
+use Rattle.layout.proofs.Inversion.{Came, came, Was, item-was}
 use Rattle.binary.specs.Groups.{u32x3, u32x4}
 use Rattle.binary.specs.declared.groups.Bits3.{Bits3}
 use Rattle.binary.specs.declared.groups.Bits4.{Bits4}
 use Rattle.records.specs.Pose.{poseBits}
 use Rattle.records.specs.declared.pose.PoseBits.{PoseBits}
 use Rattle.keys.specs.Words.{words3, words4}
-
--- What was read, and where it ends.
-pub record Was {A : Type 0} (value : A) (end : ℕ) (a : A) (next : ℕ) : Type 0 where
-  pub is : value ≡ a
-  pub to : end ≡ next
-
-pub item-was : {A : Type 0} (width : ℕ) (value : List ℕ → ℕ → A) (s : List ℕ) (at : ℕ) (a : A) (next : ℕ) → item width value s at ≡ fine a next → Was (value s at) (at + width) a next
-unfolding item
-item-was {A} width value s at a next e = go (leb (at + width) (length s)) e
-  where
-    go : (b : Bool) → cond b (fine (value s at) (at + width)) (refusedAt 1 at) ≡ fine a next → Was (value s at) (at + width) a next
-    go true e = record { is = cc; to = cc }
-    go false e = absurd (let z : _≡_ {A = ℕ} 0 1 = cc in omega arith)
 
 module _ (s : List ℕ) where
   pub number-was : (at n next : ℕ) → u32 s at ≡ fine n next → Was (u32At s at) (at + 4) n next

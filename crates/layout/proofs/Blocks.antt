@@ -13,20 +13,12 @@ use lib.ListN.{length, replicate}
 use lib.Dec.{leb}
 use Rattle.layout.specs.Walk.{Walk, fine, refusedAt, items, times}
 use Rattle.layout.specs.Records.{size}
+use Rattle.layout.specs.Blocks.{place, runPlace}
 use Rattle.layout.proofs.Steps.{whole, short}
 
 pub pos-of-mul : (n width : ℕ) → 0 < n * width → 0 < width
 pos-of-mul n zero some = absurd (omega (arith, mul-zero n))
 pos-of-mul n (suc width) some = omega arith
-
--- Of items that do not all fit in `room` bytes: where the first stands that does not.
-unfoldable pub place : List ℕ → ℕ → ℕ
-place [] room = 0
-place (width ∷ widths) room = cond (leb width room) (width + place widths (room - width)) 0
-
--- The same for n items of one width with others behind them, whose place in what n items leave is `rest`.
-unfoldable pub runPlace : ℕ → ℕ → ℕ → ℕ → ℕ
-runPlace n width room rest = cond (leb (n * width) room) (n * width + rest) (room / width * width)
 
 pub items-whole : (widths s : List ℕ) (at : ℕ) → at + size widths ≤ length s → items widths s at ≡ fine tt (at + size widths)
 unfolding items size

@@ -51,3 +51,16 @@ item-fits {A} width value s at a next e = go (leb (at + width) (length s)) refl 
     go : (b : Bool) → leb (at + width) (length s) ≡ b → cond b (fine (value s at) (at + width)) (refusedAt 1 at) ≡ fine a next → at + width ≤ length s
     go true test e = leb-true (at + width) (length s) test
     go false test e = absurd (let z : _≡_ {A = ℕ} 0 1 = cc in omega arith)
+
+-- What was read, and where it ends.
+pub record Was {A : Type 0} (value : A) (end : ℕ) (a : A) (next : ℕ) : Type 0 where
+  pub is : value ≡ a
+  pub to : end ≡ next
+
+pub item-was : {A : Type 0} (width : ℕ) (value : List ℕ → ℕ → A) (s : List ℕ) (at : ℕ) (a : A) (next : ℕ) → item width value s at ≡ fine a next → Was (value s at) (at + width) a next
+unfolding item
+item-was {A} width value s at a next e = go (leb (at + width) (length s)) e
+  where
+    go : (b : Bool) → cond b (fine (value s at) (at + width)) (refusedAt 1 at) ≡ fine a next → Was (value s at) (at + width) a next
+    go true e = record { is = cc; to = cc }
+    go false e = absurd (let z : _≡_ {A = ℕ} 0 1 = cc in omega arith)

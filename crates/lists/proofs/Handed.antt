@@ -5,6 +5,7 @@ use mathlib.Core.Path.{_≡_, refl, sym, ap, _∙_}
 use lib.ListN.{take, drop}
 use Rattle.layout.specs.Walk.{Refusal, Answer, answered, declined, answer, Part}
 use Rattle.records.specs.declared.base.Span.{Span}
+use Rattle.records.specs.declared.bone.PmmDocumentBoneKeyframeSummary.{PmmDocumentBoneKeyframeSummary}
 use Rattle.section.specs.declared.model.Model.{Model}
 use Rattle.lists.specs.Parts.{payloadOr}
 use Rattle.lists.specs.Interpolation.{curvesOr}
@@ -27,6 +28,7 @@ module _ {A : Type 0} (spanOf : A → Span) (s : List ℕ) (x y : Answer A) (con
   pub payload-some : (a : A) (part : List ℕ) → y ≡ answered a → part ≡ take (spanOf a .«payload_byte_length») (drop (spanOf a .«payload_offset») s) → part ≡ payloadOr spanOf x s
   payload-some a part = handed (λ (a : Answer A). payloadOr spanOf a s) x y (answered a) part contract
 
--- The curves of a record at an offset.
-pub curves-from : (x a : Answer ℕ) (s : List ℕ) (r : List (List ℕ)) → a ≡ x → r ≡ curvesOr a s → r ≡ curvesOr x s
-curves-from x a s r is = handed (λ (a : Answer ℕ). curvesOr a s) x a a r is refl
+-- The curves of a bone record.
+module _ (s : List ℕ) (x y : Answer PmmDocumentBoneKeyframeSummary) (contract : y ≡ x) (r : List (List ℕ)) where
+  pub curves-handed : (k : Answer PmmDocumentBoneKeyframeSummary) → y ≡ k → r ≡ curvesOr k s → r ≡ curvesOr x s
+  curves-handed k = handed (λ (a : Answer PmmDocumentBoneKeyframeSummary). curvesOr a s) x y k r contract

@@ -7,11 +7,11 @@ use mathlib.Core.Path.{_≡_, refl, sym, _∙_}
 use lib.ListN.{length, set, length-set}
 use Rattle.layout.specs.Walk.{answered}
 use Rattle.clip.specs.Fields.{Records, Kind}
-use Rattle.clip.specs.Scan.{recordOf}
+use Rattle.clip.specs.Scan.{recordOf, Indexed}
 use Rattle.clip.specs.Chain.{chain}
 use Rattle.clip.specs.Build.{chainOf}
 use Rattle.clip.proofs.Counting.{distinct-length}
-use Rattle.clip.proofs.Indexed.{Indexed, of-record}
+use Rattle.clip.proofs.Indexed.{of-record}
 use Rattle.clip.proofs.Chained.{Chained, all-below, no-repeats}
 use Rattle.clip.proofs.Follow.{is-chain}
 use Rattle.marks.specs.Marks.{marked}

@@ -14,7 +14,7 @@ use Rattle.clip.specs.First.{given, _or_, first, member}
 use Rattle.clip.specs.Fields.{Records, Kind}
 use Rattle.clip.specs.Build.{chainOf, reachedBefore, reached}
 use Rattle.clip.proofs.First.{or-true, or-false, contrary, none-first, none-given, given-none, given-some, first-none, first-some, any-false, false-any, true-any}
-use Rattle.clip.proofs.Indexed.{Indexed}
+use Rattle.clip.specs.Scan.{Indexed}
 use Rattle.clip.proofs.Shared.{never-shared}
 use Rattle.strip.specs.Work.{each, plusOne, trackMark}
 use Rattle.marks.specs.Marks.{marked}

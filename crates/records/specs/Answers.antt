@@ -1,7 +1,6 @@
 -- What each answer says in document 01's terms: what was read and the offset behind it, or refusal 1 at its place.
 use Prim.Native.Nat.{ℕ}
 use Rattle.layout.specs.Walk.{Walk, fine, refusedAt}
-use Rattle.records.specs.declared.curves.ReadInterpolation.{ReadInterpolation}
 use Rattle.records.specs.declared.base.BaseBits.{BaseBits}
 use Rattle.records.specs.declared.base.ReadBase.{ReadBase}
 use Rattle.records.specs.declared.pose.PoseBits.{PoseBits}
@@ -38,7 +37,3 @@ modelRead (ReadModelRecord.Short place) = refusedAt 1 place
 abbrev pub boneStateRead : ReadBoneState → Walk BoneStateBits
 boneStateRead (ReadBoneState.Read x next) = fine x next
 boneStateRead (ReadBoneState.Short place) = refusedAt 1 place
-
-abbrev pub interpolationRead : ReadInterpolation → Walk ℕ
-interpolationRead (ReadInterpolation.At offset next) = fine offset next
-interpolationRead (ReadInterpolation.Short place) = refusedAt 1 place

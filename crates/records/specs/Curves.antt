@@ -1,10 +1,7 @@
 -- Document 01: "A bone's interpolation is four curves of four bytes each: x, y, z, rotation". Definitions only.
 use Prim.Native.Nat.{ℕ, _+_}
-use mathlib.Core.Bool.{Bool}
 use mathlib.Core.List.{List, [], _∷_}
 use lib.ListN.{getD}
-use Rattle.layout.specs.Walk.{Reader, _>>=_, _>>_, give, here, block}
-use Rattle.records.specs.Base.{baseBits}
 
 abbrev pub curveAt : List ℕ → ℕ → List ℕ
 curveAt s at = getD s at 0 ∷ getD s (at + 1) 0 ∷ getD s (at + 2) 0 ∷ getD s (at + 3) 0 ∷ []
@@ -15,11 +12,3 @@ curvesAt s at = curveAt s at ∷ curveAt s (at + 4) ∷ curveAt s (at + 8) ∷ c
 -- What stands for a record that is not there.
 abbrev pub noCurves : List (List ℕ)
 noCurves = (0 ∷ 0 ∷ 0 ∷ 0 ∷ []) ∷ (0 ∷ 0 ∷ 0 ∷ 0 ∷ []) ∷ (0 ∷ 0 ∷ 0 ∷ 0 ∷ []) ∷ (0 ∷ 0 ∷ 0 ∷ 0 ∷ []) ∷ []
-
--- The offset of the interpolation of the bone record at an offset.
-unfoldable pub interpolationAt : Bool → Reader ℕ
-interpolationAt includeIndex = do
-  baseBits includeIndex
-  offset ← here
-  block 16
-  give offset

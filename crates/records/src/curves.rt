@@ -2,30 +2,7 @@
 ghost use mathlib.Core.Path.{_≡_};
 ghost use Prim.Native.Nat.{_+_, _≤_};
 ghost use lib.ListN.{length};
-ghost use Rattle.records.specs.Curves.{curveAt, curvesAt, interpolationAt, noCurves};
-ghost use Rattle.records.specs.Answers.{interpolationRead};
-use crate::base;
-use crate::base::ReadBase;
-use binary::numbers;
-use binary::numbers::Skipped;
-
-// The offset of a bone record's interpolation.
-pub enum ReadInterpolation {
-    At(usize, usize),
-    Short(usize),
-}
-
-pub fn read_interpolation(s: &[u8], at: usize, include_index: bool) -> ReadInterpolation
-    ensures { λ r. ⌜ interpolationRead r ≡ interpolationAt «include_index» (now (s .entry)) at ⌝ }
-{
-    match base::read_base(s, at, include_index) {
-        ReadBase::Short(place) => ReadInterpolation::Short(place),
-        ReadBase::Read(_, offset) => match numbers::skip(s, offset, 16) {
-            Skipped::Short(place) => ReadInterpolation::Short(place),
-            Skipped::To(next) => ReadInterpolation::At(offset, next),
-        },
-    }
-}
+ghost use Rattle.records.specs.Curves.{curveAt, curvesAt, noCurves};
 
 fn curve(s: &[u8], at: usize) -> [u8; 4]
     requires { ⌜ at + 4 ≤ length (now s) ⌝ }

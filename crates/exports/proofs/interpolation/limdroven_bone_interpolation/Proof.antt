@@ -1,6 +1,6 @@
 -- `limdroven_bone_interpolation` meets its contract: the curves are written one behind the other. Assumes nothing.
 use Rattle.section.specs.Limits.{edition1}
-use Rattle.lists.specs.Interpolation.{boneInterpolation}
+use Rattle.lists.specs.Keyframes.{boneKeyframe}
 use Rattle.exports.proofs.Curved.{curved}
 use borrow.Author.Needs.{needs}
 use Rattle.exports.proofs.interpolation.limdroven_bone_interpolation.Statement.{statement}
@@ -40,7 +40,7 @@ returns : tie.Need-returns
 returns c =
     let args = c .before .before .before .before .before .before .before .before .before .before .before .before .before .before .before .before .before .before .before .before .before .before .before .args in
     let s = args .section .now in
-    curved s _ _ _ _ _ _ (boneInterpolation edition1 (args .include-index) (args .number) s (args .start)) (c .before .before .before .before .before .before .before .before .before .before .before .before .before .before .before .before .before .before .before .before .bone-interpolation .ensures)
+    curved s _ _ _ _ _ _ (boneKeyframe edition1 (args .include-index) (args .number) s (args .start)) (c .before .before .before .before .before .before .before .before .before .before .before .before .before .before .before .before .before .before .before .before .bone-interpolation .ensures)
     (c .before .before .before .before .before .before .before .before .before .before .before .before .before .before .put-curve .ensures)
     (c .before .before .before .before .before .before .before .before .before .before .put-curve2 .ensures)
     (c .before .before .before .before .before .before .put-curve3 .ensures)

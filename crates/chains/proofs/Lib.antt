@@ -1,16 +1,5 @@
 pub mod Places
 pub mod Going
 pub mod ByIndex
-pub mod KeysAsked
-pub mod FirstRepeats
-pub mod ListedChain
-pub mod ChainFrames
-pub mod Followed
-pub mod Again
-pub mod CloseFrames
-pub mod Meets
-pub mod OneKey
 pub mod Scanned
 pub mod RisingIndices
-pub mod Readied
-pub mod Asking

@@ -19,14 +19,13 @@ use Rattle.clip.specs.First.{first}
 use Rattle.clip.specs.Fields.{refusalOf, signed}
 use Rattle.clip.specs.Scan.{indexRefusal, scan}
 use Rattle.clip.specs.Section.{additionalAt}
-use Rattle.clip.proofs.First.{below-suc, none-or, none-given, none-first, false-any, true-any}
+use Rattle.clip.proofs.First.{below-suc, none-or, none-given, none-first, false-any, true-any, first-met}
 use Rattle.clip.proofs.Indexed.{scanned}
 use Rattle.chains.specs.Block.{Fits, kindOf, links}
 use Rattle.chains.specs.Lookup.{Ordered}
 use Rattle.chains.specs.Scan.{InRange}
 use Rattle.chains.specs.declared.block.Block.{Block}
 use Rattle.chains.proofs.ByIndex.{index-field, is-byIndex}
-use Rattle.chains.proofs.Meets.{first-met}
 
 module _ (s : List ℕ) (b : Block) where
   module _ (n : ℕ) (ranged : InRange s b n) (m : ℕ) (repeat : FirstRepeat (numberOf s (b .records)) (b .records .count) m) where

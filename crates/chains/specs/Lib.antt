@@ -2,9 +2,4 @@ pub mod Block
 pub mod Lookup
 pub mod Walk
 pub mod Fault
-pub mod MorphKeys
-pub mod Tracks
-pub mod Ready
 pub mod Scan
-pub mod Frames
-pub mod Close

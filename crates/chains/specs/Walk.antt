@@ -1,10 +1,15 @@
 -- What a walk along a chain answers. Definitions only.
-use Prim.Native.Nat.{ℕ}
+use Prim.Native.Nat.{ℕ, _<_}
 use mathlib.Core.List.{List, [], _∷_}
+use mathlib.Core.Path.{_≡_}
 use lib.IntN.{pos}
 use lib.ListN.{take}
 use Rattle.layout.specs.Walk.{Answer, answered, declined}
 use Rattle.clip.specs.Fields.{Kind, refusalOf, signed}
+use Rattle.clip.specs.Chain.{chain}
+use Rattle.clip.specs.Build.{chainOf}
+use Rattle.chains.specs.Block.{kindOf, links}
+use Rattle.chains.specs.declared.block.Block.{Block}
 use Rattle.chains.specs.declared.walk.Walked.{Walked}
 
 -- The records of the chain stand at the front of the second work slice.
@@ -20,3 +25,7 @@ listedMany (Walked.Ends n) = n
 listedMany (Walked.Missing link) = 0
 listedMany (Walked.Cycle link) = 0
 listedMany (Walked.Wrong link found expected) = 0
+
+-- Every track's chain ends.
+abbrev pub AllEnd : List ℕ → Block → Type 0
+AllEnd s b = (t : ℕ) → t < b .initials .count → chain (kindOf (b .kind)) (links s b) t ≡ answered (chainOf (kindOf (b .kind)) (links s b) t)

@@ -1,5 +1,6 @@
 -- Laws of what is met first, found and counted (specs, First). Assumes nothing.
-use Prim.Native.Nat.{ℕ, zero, suc, _<_}
+use Prim.Native.Nat.{ℕ, zero, suc, _+_, _<_}
+use native.Mathlib.Numerals.{add-one}
 use native.Mathlib.Decide.{ℕ-discrete}
 use native.Mathlib.Omega.{arith}
 use mathlib.Core.Bool.{Bool, true, false, _||_}
@@ -117,3 +118,16 @@ module _ (f : ℕ → Bool) where
       or-true (any n f) (f n) e
       (λ before. let p = any-true n before in record { place = p .place; below = omega (arith, p .below); is = p .is })
       (λ last. record { place = n; below = omega arith; is = last })
+
+-- The first that is met after none was met before.
+pub first-met : {A : Type 0} (n : ℕ) (f : ℕ → Option A) (i : ℕ) (a : A) → i < n → first i f ≡ none → f i ≡ some a → first n f ≡ some a
+unfolding first
+first-met zero f i a lt before is = absurd (omega arith)
+first-met (suc n) f i a lt before is =
+    below-suc i n lt
+    (λ last. rw (subst (λ k. first k f ≡ none) last before) (subst (λ k. f k ≡ some a) last is))
+    (λ less. rw (first-met n f i a less before is))
+
+pub first-more : {A : Type 0} (n : ℕ) (f : ℕ → Option A) → first n f ≡ none → f n ≡ none → first (n + 1) f ≡ none
+unfolding first
+first-more n f before is = rw (add-one, before) is

@@ -20,9 +20,9 @@ use Rattle.clip.proofs.Chained.{Linked}
 use Rattle.clip.proofs.Walked.{one-more, few, walk-ends}
 use Rattle.clip.proofs.Shared.{never-shared}
 use Rattle.chains.specs.Block.{kindOf, links}
-use Rattle.chains.specs.Fault.{keyMeets}
+use Rattle.track_keys.specs.Keys.{keyMeets}
 use Rattle.chains.specs.Lookup.{Ordered}
-use Rattle.chains.specs.Tracks.{meets, testAt}
+use Rattle.track_keys.specs.Tracks.{meets, testAt}
 use Rattle.chains.specs.declared.block.Block.{Block}
 use Rattle.marks.specs.Marks.{marked}
 use Rattle.marks.specs.Rising.{Behind, OneMarked, ChainMarked}

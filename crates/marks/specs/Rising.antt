@@ -10,8 +10,8 @@ use Rattle.clip.specs.Chain.{chain}
 use Rattle.clip.specs.Build.{chainOf, linksFollowed}
 use Rattle.strip.specs.Work.{each, trackMark}
 use Rattle.chains.specs.Block.{kindOf, links}
-use Rattle.chains.specs.Fault.{keyMeets}
-use Rattle.chains.specs.Tracks.{meets, tracksMeet}
+use Rattle.track_keys.specs.Keys.{keyMeets}
+use Rattle.track_keys.specs.Tracks.{meets, tracksMeet}
 use Rattle.chains.specs.declared.block.Block.{Block}
 use Rattle.marks.specs.Marks.{marked}
 use Rattle.marks.specs.declared.rising.Rising.{Rising}

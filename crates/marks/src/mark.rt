@@ -6,7 +6,7 @@ ghost use Rattle.strip.specs.Work.{each, trackMark};
 ghost use Rattle.clip.specs.Build.{chainOf, linksFollowed};
 ghost use Rattle.chains.specs.Block.{kindOf, links};
 ghost use Rattle.chains.specs.Lookup.{Ordered};
-ghost use Rattle.chains.specs.Tracks.{AllEnd};
+ghost use Rattle.chains.specs.Walk.{AllEnd};
 ghost use Rattle.marks.specs.Marks.{marked, countsOf};
 use crate::counts;
 use crate::counts::Counts;

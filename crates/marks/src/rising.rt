@@ -10,12 +10,12 @@ ghost use Rattle.marks.specs.Rising.{Behind, ChainMarked, TracksMarked};
 use chains::block;
 use chains::block::Block;
 use chains::fault::Met;
-use chains::key;
 use chains::lookup;
 use chains::lookup::Found;
 use chains::near;
-use chains::ready;
 use flags::bits;
+use track_keys::key;
+use track_keys::ready;
 
 // How many links were followed, if nothing else was found.
 pub enum Rising {

@@ -17,7 +17,8 @@ use Rattle.strip.specs.Work.{each, trackMark}
 use Rattle.chains.specs.Block.{kindOf, links}
 use Rattle.chains.specs.Fault.{faultOf, metRead}
 use Rattle.chains.specs.Lookup.{Ordered}
-use Rattle.chains.specs.Tracks.{meets, tracksMeet, AllEnd}
+use Rattle.chains.specs.Walk.{AllEnd}
+use Rattle.track_keys.specs.Tracks.{meets, tracksMeet}
 use Rattle.chains.specs.declared.block.Block.{Block}
 use Rattle.chains.specs.declared.fault.Fault.{Fault}
 use Rattle.chains.specs.declared.fault.Met.{Met}

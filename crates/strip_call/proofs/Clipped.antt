@@ -6,7 +6,7 @@ use mathlib.Core.Path.{_≡_, subst}
 use Rattle.clip.proofs.Sound.{sound}
 use Rattle.clip.proofs.Reached.{reached-and-loose}
 use Rattle.chains.specs.Block.{kindOf, links}
-use Rattle.chains.specs.Tracks.{testAt}
+use Rattle.track_keys.specs.Tracks.{testAt}
 use Rattle.chains.specs.declared.block.Block.{Block}
 use Rattle.strip_call.specs.Building.{Passed, Builds}
 use Rattle.strip_call.specs.declared.answer.BuiltKind.{BuiltKind}

@@ -11,7 +11,8 @@ use Rattle.strip.specs.Work.{each, trackMark}
 use Rattle.chains.specs.Block.{kindOf, links}
 use Rattle.chains.specs.Fault.{faultOf}
 use Rattle.chains.specs.Lookup.{Ordered}
-use Rattle.chains.specs.Tracks.{testAt, AllEnd}
+use Rattle.chains.specs.Walk.{AllEnd}
+use Rattle.track_keys.specs.Tracks.{testAt}
 use Rattle.chains.specs.declared.block.Block.{Block}
 use Rattle.chains.specs.declared.fault.Fault.{Fault}
 use Rattle.marks.specs.declared.counts.Counts.{Counts}

@@ -4,7 +4,7 @@ use mathlib.Core.List.{List, _++_}
 use lib.ListN.{length}
 use Rattle.strip.specs.Keys.{littleEndian}
 use Rattle.chains.specs.Lookup.{Ordered}
-use Rattle.chains.specs.Tracks.{AllEnd}
+use Rattle.chains.specs.Walk.{AllEnd}
 use Rattle.chains.specs.declared.block.Block.{Block}
 use Rattle.writing.specs.Tracks.{stripTracks}
 use Rattle.strip_call.specs.Parts.{part}

@@ -11,12 +11,12 @@ use chains::block::Block;
 use chains::fault::Fault;
 use chains::fault::Met;
 use chains::scan;
-use chains::tracks;
 use marks::counts;
 use marks::counts::Counts;
 use marks::mark;
 use marks::rising;
 use marks::rising::Rising;
+use track_keys::tracks;
 
 // 15, or what the build reports.
 fn report(counts: Counts) -> BuiltKind

@@ -15,7 +15,7 @@ use Rattle.clip.proofs.Chained.{Chained, all-below, no-repeats}
 use Rattle.clip.proofs.Follow.{is-chain}
 use Rattle.chains.specs.Block.{kindOf, links}
 use Rattle.chains.specs.Lookup.{Ordered, foundRead}
-use Rattle.chains.specs.Tracks.{AllEnd}
+use Rattle.chains.specs.Walk.{AllEnd}
 use Rattle.chains.specs.declared.block.Block.{Block}
 use Rattle.chains.specs.declared.lookup.Found.{Found}
 use Rattle.writing.specs.Tracks.{chainAt}

@@ -10,7 +10,7 @@ use Rattle.clip.specs.Build.{recordKey}
 use Rattle.clip.specs.Scan.{recordOf}
 use Rattle.chains.specs.Block.{links}
 use Rattle.chains.specs.Lookup.{Ordered}
-use Rattle.chains.specs.Tracks.{AllEnd}
+use Rattle.chains.specs.Walk.{AllEnd}
 use Rattle.chains.specs.declared.block.Block.{Block}
 use Rattle.writing.specs.Tracks.{recordBytes, recordsBytes, chainAt, stripTrack, firstTracks}
 use Rattle.writing.specs.Along.{Along}

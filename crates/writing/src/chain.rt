@@ -7,7 +7,7 @@ ghost use Rattle.clip.specs.Scan.{recordOf};
 ghost use Rattle.keys.specs.Placed.{Room, Wrote};
 ghost use Rattle.chains.specs.Block.{links};
 ghost use Rattle.chains.specs.Lookup.{Ordered};
-ghost use Rattle.chains.specs.Tracks.{AllEnd};
+ghost use Rattle.chains.specs.Walk.{AllEnd};
 ghost use Rattle.writing.specs.Tracks.{chainAt, recordsBytes};
 ghost use Rattle.writing.specs.Along.{Borne};
 use crate::key;

@@ -4,7 +4,7 @@ ghost use Prim.Native.Nat.{_<_};
 ghost use lib.ListN.{length};
 ghost use Rattle.keys.specs.Placed.{Room, Wrote};
 ghost use Rattle.chains.specs.Lookup.{Ordered};
-ghost use Rattle.chains.specs.Tracks.{AllEnd};
+ghost use Rattle.chains.specs.Walk.{AllEnd};
 ghost use Rattle.writing.specs.Tracks.{stripTrack};
 use crate::chain;
 use crate::key;

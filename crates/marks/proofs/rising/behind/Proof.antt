@@ -1,7 +1,7 @@
 -- `behind` meets its contract. Assumes nothing.
 use Rattle.chains.proofs.Places.{record-fits}
 use Rattle.chains.specs.Block.{links}
-use Rattle.chains.specs.Fault.{keyMeets}
+use Rattle.track_keys.specs.Keys.{keyMeets}
 use Rattle.clip.specs.Section.{additionalAt}
 use mathlib.Core.Bool.{false}
 use mathlib.Core.Path.{_≡_, sym, ap, _∙_, subst}

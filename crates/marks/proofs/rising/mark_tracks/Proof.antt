@@ -3,9 +3,9 @@ use Rattle.marks.proofs.RisingChains.{told}
 use Rattle.marks.proofs.Passing.{Passing, no-track, as-many, all-tracks, few-links, one-track}
 use Rattle.marks.proofs.Following.{Ending}
 use Rattle.marks.specs.Rising.{OneMarked}
-use Rattle.chains.proofs.Meets.{track-more}
+use Rattle.track_keys.proofs.Meets.{track-more}
 use Rattle.chains.specs.Block.{kindOf, links}
-use Rattle.chains.specs.Tracks.{tracksMeet}
+use Rattle.track_keys.specs.Tracks.{tracksMeet}
 use Rattle.clip.specs.First.{first}
 use Rattle.chains.specs.declared.block.Block.{Block}
 use lib.ListN.{length, length-replicate}

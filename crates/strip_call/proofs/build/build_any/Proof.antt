@@ -2,7 +2,7 @@
 use Rattle.strip_call.proofs.Built.{met-none, met-some, tracks-meet, all-end, length-each, reports}
 use Rattle.strip_call.specs.Building.{Builds}
 use Rattle.strip_call.specs.declared.answer.BuiltKind.{BuiltKind}
-use Rattle.chains.specs.Tracks.{tracksMeet}
+use Rattle.track_keys.specs.Tracks.{tracksMeet}
 use lib.ListN.{length}
 use mathlib.Core.Option.{none}
 use mathlib.Core.Path.{_≡_, sym, ap, _∙_, subst}

@@ -1,0 +1,11 @@
+pub mod KeysAsked
+pub mod FirstRepeats
+pub mod ListedChain
+pub mod ChainFrames
+pub mod Followed
+pub mod Again
+pub mod CloseFrames
+pub mod Meets
+pub mod OneKey
+pub mod Readied
+pub mod Asking

@@ -34,10 +34,10 @@ module _ (s : List ℕ) (b : Block) (slots : List ℕ) (ordered : Ordered s b sl
   begins link is = record { many = omega arith; same = refl; linked = (refl, sym is) }
 
   module _ (list : List ℕ) (link expected n : ℕ) (g : Going s b track list₀ list link expected n) where
-    found-is : (f : Found) (p : ℕ) → foundRead f ≡ recordOf (links s b) link → f ≡ Found.At p → recordOf (links s b) link ≡ some p
+    found-is : (f : Found) (p : ℕ) {place : ℕ} → foundRead f ≡ recordOf (links s b) link → f ≡ Found.At p place → recordOf (links s b) link ≡ some p
     found-is f p contract seen = sym contract ∙ ap foundRead seen
 
-    pub found-below : (f : Found) (p : ℕ) → foundRead f ≡ recordOf (links s b) link → f ≡ Found.At p → p < b .records .count
+    pub found-below : (f : Found) (p : ℕ) {place : ℕ} → foundRead f ≡ recordOf (links s b) link → f ≡ Found.At p place → p < b .records .count
     found-below f p contract seen = record-of (links s b) link p (found-is f p contract seen) .0
 
     listed-many : length (take n list) ≡ n
@@ -47,7 +47,7 @@ module _ (s : List ℕ) (b : Block) (slots : List ℕ) (ordered : Ordered s b sl
       pub misses : (f : Found) → foundRead f ≡ recordOf (links s b) link → f ≡ Found.Absent → declined (refusalOf (kindOf (b .kind)) 6 (pos track ∷ signed link ∷ [])) ≡ chain (kindOf (b .kind)) (links s b) track
       misses f contract seen = sym (walk-misses (kindOf (b .kind)) (links s b) (ordered .indexed) track is-track (take n list) expected link (g .linked) on (sym contract ∙ ap foundRead seen))
 
-      module _ (f : Found) (p : ℕ) (contract : foundRead f ≡ recordOf (links s b) link) (seen : f ≡ Found.At p) (previous : ℕ) (is : previous ≡ links s b .at p .previous) where
+      module _ (f : Found) (p : ℕ) {place : ℕ} (contract : foundRead f ≡ recordOf (links s b) link) (seen : f ≡ Found.At p place) (previous : ℕ) (is : previous ≡ links s b .at p .previous) where
         pub cycles : true ≡ member p (take n list) → declined (refusalOf (kindOf (b .kind)) 7 (pos track ∷ signed link ∷ [])) ≡ chain (kindOf (b .kind)) (links s b) track
         cycles inside = sym (walk-cycles (kindOf (b .kind)) (links s b) (ordered .indexed) track is-track (take n list) expected link (g .linked) on p (found-is f p contract seen) (sym inside))
 

@@ -16,5 +16,5 @@ pub record Ordered (s : List ℕ) (b : Block) (slots : List ℕ) : Type 0 where
   pub positions : slots ≡ byIndex (links s b) (b .records .count)
 
 abbrev pub foundRead : Found → Option ℕ
-foundRead (Found.At p) = some p
+foundRead (Found.At p place) = some p
 foundRead Found.Absent = none

@@ -9,8 +9,9 @@ use crate::near::Near;
 use order::answer::Find;
 use order::search;
 
+// The position of the record, and its place in the slots.
 pub enum Found {
-    At(usize),
+    At(usize, usize),
     Absent,
 }
 
@@ -19,20 +20,21 @@ fn by_index(s: &[u8], b: Block, slots: &[u16], link: u32) -> Found
     ensures { λ r. ⌜ foundRead r ≡ recordOf (links (now (s .entry)) b) link ⌝ }
 {
     match search::find(s, b.records, slots, link) {
-        Find::At(i) => Found::At(slots[i] as usize),
+        Find::At(i) => Found::At(slots[i] as usize, i),
         Find::Absent => Found::Absent,
     }
 }
 
-// The guess first: no other record bears the link if the one that stands there does.
+// The guess first: if the record that stands there bears the link, no other one does.
 pub fn lookup(s: &[u8], b: Block, slots: &[u16], link: u32, near: Near) -> Found
     requires { ⌜ Ordered (now s) b (now slots) ⌝ }
     ensures { λ r. ⌜ foundRead r ≡ recordOf (links (now (s .entry)) b) link ⌝ }
 {
     let guess = near.next;
-    if guess < b.records.count {
-        if block::index_at(s, b, guess) == link {
-            return Found::At(guess);
+    if guess < slots.len() {
+        let p = slots[guess] as usize;
+        if block::index_at(s, b, p) == link {
+            return Found::At(p, guess);
         }
     }
     by_index(s, b, slots, link)

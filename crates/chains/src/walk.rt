@@ -52,7 +52,7 @@ pub fn walk(s: &[u8], b: Block, slots: &[u16], track: usize, list: &mut [u16]) -
     while link != 0 {
         match lookup::lookup(s, b, slots, link, near) {
             Found::Absent => return Walked::Missing(link),
-            Found::At(p) => {
+            Found::At(p, place) => {
                 let previous = block::previous_at(s, b, p);
                 if previous != expected {
                     if listed(list, n, p) {
@@ -63,7 +63,7 @@ pub fn walk(s: &[u8], b: Block, slots: &[u16], track: usize, list: &mut [u16]) -
                 list[n] = p as u16;
                 n = n + 1;
                 expected = link;
-                near = near::after(near, p);
+                near = near::after(near, place);
                 link = block::next_at(s, b, p);
             }
         }

@@ -33,10 +33,10 @@ fn mark_chain(s: &[u8], b: Block, slots: &[u16], track: usize, marks: &mut [u16]
     while link != 0 {
         match lookup::lookup(s, b, slots, link, near) {
             Found::Absent => return n,
-            Found::At(p) => {
+            Found::At(p, place) => {
                 marks[p] = mark;
                 n = n + 1;
-                near = near::after(near, p);
+                near = near::after(near, place);
                 link = block::next_at(s, b, p);
             }
         }

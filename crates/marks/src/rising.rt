@@ -60,7 +60,7 @@ fn mark_chain(s: &[u8], b: Block, slots: &[u16], track: usize, marks: &mut [u16]
     while link != 0 {
         match lookup::lookup(s, b, slots, link, near) {
             Found::Absent => return Rising::Otherwise,
-            Found::At(p) => {
+            Found::At(p, place) => {
                 if !behind(s, b, p, expected, frame) {
                     return Rising::Otherwise;
                 }
@@ -68,7 +68,7 @@ fn mark_chain(s: &[u8], b: Block, slots: &[u16], track: usize, marks: &mut [u16]
                 n = n + 1;
                 expected = link;
                 frame = block::frame_at(s, b, p);
-                near = near::after(near, p);
+                near = near::after(near, place);
                 link = block::next_at(s, b, p);
             }
         }

@@ -57,7 +57,7 @@ module _ {s : List ℕ} {b : Block} {slots : List ℕ} {track : ℕ} (x : Ends s
     pub again-long : length list ≡ length before
     again-long = a .met .length ∙ sorted .length
 
-    module _ (front : i < length before) (f : Found) (contract : foundRead f ≡ recordOf (links s b) link) {p : ℕ} (seen : f ≡ Found.At p) {frame : ℕ} (is : frame ≡ links s b .at p .frame) {first : ℕ} (initial : first ≡ links s b .initial track .frame) where
+    module _ (front : i < length before) (f : Found) (contract : foundRead f ≡ recordOf (links s b) link) {p place : ℕ} (seen : f ≡ Found.At p place) {frame : ℕ} (is : frame ≡ links s b .at p .frame) {first : ℕ} (initial : first ≡ links s b .initial track .frame) where
       here : frame ≡ framesAt s b track (i + 1)
       here = follow-frame x (ap length held) (a .followed) front f contract seen is
 

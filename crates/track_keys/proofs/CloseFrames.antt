@@ -68,7 +68,7 @@ module _ {s : List ℕ} {b : Block} {slots : List ℕ} {track : ℕ} (x : Ends s
       met = met-more (none-met (framesAt s b track) (span .least) n zero) initial raised (omega (arith, initial, spans .least 0 (omega arith)));
     }
 
-  module _ {list : List ℕ} {link i : ℕ} (a : Flagged s b track span n list link i) (front : i < n) (f : Found) (contract : foundRead f ≡ recordOf (links s b) link) {p : ℕ} (seen : f ≡ Found.At p) {frame : ℕ} (is : frame ≡ links s b .at p .frame) where
+  module _ {list : List ℕ} {link i : ℕ} (a : Flagged s b track span n list link i) (front : i < n) (f : Found) (contract : foundRead f ≡ recordOf (links s b) link) {p place : ℕ} (seen : f ≡ Found.At p place) {frame : ℕ} (is : frame ≡ links s b .at p .frame) where
     here : frame ≡ framesAt s b track (i + 1)
     here = follow-frame x long (a .followed) front f contract seen is
 

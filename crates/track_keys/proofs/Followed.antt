@@ -62,7 +62,7 @@ module _ {s : List ℕ} {b : Block} {slots : List ℕ} {track : ℕ} (x : Ends s
         let out : none ≡ some (getD (chainAt s b track) i 0) = sym (ap foundRead seen) ∙ contract ∙ bears in
         absurd (let z : _≡_ {A = ℕ} 0 1 = cc in omega arith)
 
-    module _ {p : ℕ} (seen : f ≡ Found.At p) where
+    module _ {p place : ℕ} (seen : f ≡ Found.At p place) where
       next-is : p ≡ getD (chainAt s b track) i 0
       next-is =
           let same : some p ≡ some (getD (chainAt s b track) i 0) = sym (ap foundRead seen) ∙ contract ∙ bears in

@@ -108,12 +108,12 @@ pub fn flagged_again(
     while i < n {
         match lookup::lookup(s, b, slots, link, near) {
             Found::Absent => return i,
-            Found::At(p) => {
+            Found::At(p, place) => {
                 let frame = block::frame_at(s, b, p);
                 if meet(span, list, frame) {
                     return i + 1;
                 }
-                near = near::after(near, p);
+                near = near::after(near, place);
                 link = block::next_at(s, b, p);
                 i = i + 1;
             }

@@ -57,8 +57,9 @@ fn met_again(s: &[u8], b: Block, slots: &[u16], track: usize, list: &mut [u16]) 
     ensures { λ r. ⌜ FirstRepeat (framesAt (now (s .entry)) b track) (length (chainAt (now (s .entry)) b track) + 1) r ⌝ }
 {
     let first = block::first_frame(s, b, track);
+    let at = b.records.first + 4;
     let frames = Field {
-        first: b.records.first + 4,
+        first: at,
         width: b.records.width,
         count: b.records.count,
     };
@@ -72,7 +73,7 @@ fn met_again(s: &[u8], b: Block, slots: &[u16], track: usize, list: &mut [u16]) 
     while i < n {
         match lookup::lookup(s, b, slots, link, near) {
             Found::Absent => return i,
-            Found::At(p) => {
+            Found::At(p, place) => {
                 let frame = block::frame_at(s, b, p);
                 if frame == first {
                     return i + 1;
@@ -80,7 +81,7 @@ fn met_again(s: &[u8], b: Block, slots: &[u16], track: usize, list: &mut [u16]) 
                 if met::meet(s, frames, list, frame) {
                     return i + 1;
                 }
-                near = near::after(near, p);
+                near = near::after(near, place);
                 link = block::next_at(s, b, p);
                 i = i + 1;
             }

@@ -26,7 +26,7 @@ some-is e = cc
 
 -- What a search answers of a link that is borne.
 module _ (s : List ℕ) (b : Block) (link : ℕ) (f : Found) (contract : foundRead f ≡ recordOf (links s b) link) where
-  pub found-at : (p : ℕ) → f ≡ Found.At p → recordOf (links s b) link ≡ some p
+  pub found-at : (p : ℕ) {place : ℕ} → f ≡ Found.At p place → recordOf (links s b) link ≡ some p
   found-at p seen = sym contract ∙ ap foundRead seen
 
   pub found-none : {P : Type 0} → Borne s b link → f ≡ Found.Absent → P

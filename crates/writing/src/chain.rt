@@ -18,15 +18,24 @@ use chains::lookup::Found;
 use chains::near;
 use chains::near::Near;
 
+// Where a record stands in the section, and in the slots.
+struct Standing {
+    position: usize,
+    place: usize,
+}
+
 // The record that bears a link.
-fn position(s: &[u8], b: Block, slots: &[u16], link: u32, near: Near) -> usize
+fn position(s: &[u8], b: Block, slots: &[u16], link: u32, near: Near) -> Standing
     requires { ⌜ Ordered (now s) b (now slots) ⌝ }
     requires { ⌜ Borne (now s) b link ⌝ }
-    ensures { λ r. ⌜ recordOf (links (now (s .entry)) b) link ≡ some r ⌝ }
+    ensures { λ r. ⌜ recordOf (links (now (s .entry)) b) link ≡ some (r .position) ⌝ }
 {
     match lookup::lookup(s, b, slots, link, near) {
-        Found::At(p) => p,
-        Found::Absent => 0,
+        Found::At(position, place) => Standing { position, place },
+        Found::Absent => Standing {
+            position: 0,
+            place: 0,
+        },
     }
 }
 
@@ -43,10 +52,11 @@ pub fn measure(s: &[u8], b: Block, slots: &[u16], track: usize) -> usize
     let mut bytes: usize = 0;
     let mut near = near::unknown();
     while link != 0 {
-        let p = position(s, b, slots, link, near);
+        let standing = position(s, b, slots, link, near);
+        let p = standing.position;
         bytes = bytes + key::record_length(s, b, p);
         records = records + 1;
-        near = near::after(near, p);
+        near = near::after(near, standing.place);
         link = block::next_at(s, b, p);
     }
     bytes
@@ -78,10 +88,11 @@ pub fn write_records(
     let mut end = place;
     let mut near = near::unknown();
     while link != 0 {
-        let p = position(s, b, slots, link, near);
+        let standing = position(s, b, slots, link, near);
+        let p = standing.position;
         end = key::write_record(s, b, p, output, end);
         records = records + 1;
-        near = near::after(near, p);
+        near = near::after(near, standing.place);
         link = block::next_at(s, b, p);
     }
     Written { records, end }

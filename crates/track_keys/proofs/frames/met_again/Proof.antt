@@ -11,16 +11,16 @@ use Rattle.track_keys.proofs.frames.met_again.Statement.{statement}
 use Rattle.track_keys.proofs.frames.met_again.Tie as tie
 
 abbrev Inv-loop : tie.InvT-loop
-Inv-loop s b slots track list₀ first frames n link₀ near₀ i₀ list link near i = Again s b track list₀ list link i
+Inv-loop s b slots track list₀ first at frames n link₀ near₀ i₀ list link near i = Again s b track list₀ list link i
 
 abbrev μ-loop : tie.MeasureT-loop
-μ-loop s b slots track list₀ first frames n link₀ near₀ i₀ list link near i = n - i
+μ-loop s b slots track list₀ first at frames n link₀ near₀ i₀ list link near i = n - i
 
 first-frame-requires : tie.Need-first-frame-requires Inv-loop μ-loop
 first-frame-requires c κs = search needs
 
-add-t14 : tie.Need-add-t14 Inv-loop μ-loop
-add-t14 c = search needs
+add-at : tie.Need-add-at Inv-loop μ-loop
+add-at c = search needs
 
 repeats-requires : tie.Need-repeats-requires Inv-loop μ-loop
 repeats-requires c κs =
@@ -170,7 +170,7 @@ met-again-spec =
     Inv-loop
     μ-loop
     first-frame-requires
-    add-t14
+    add-at
     repeats-requires
     add-result
     same-length

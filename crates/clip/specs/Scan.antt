@@ -26,9 +26,9 @@ module _ {B : Type 0} (kind : Kind) (r : Records B) where
 unfoldable pub recordOf : {B : Type 0} → Records B → ℕ → Option ℕ
 recordOf r index = first (r .additional) (λ p. given (eqb (r .at p .index) index) p)
 
--- What the index scan of records that pass it leaves known.
+-- What holds of records that pass the scan.
 module _ {B : Type 0} (r : Records B) where
-  -- "an index not below its kind's count", which a negative one is, and no two alike
+  -- Indices that are not negative, not below their kind's count, and no two alike.
   pub record Indexed : Type 0 where
     pub positive : (p : ℕ) → p < r .additional → r .at p .index < 2147483648
     pub above : (p : ℕ) → p < r .additional → r .tracks ≤ r .at p .index

@@ -99,7 +99,7 @@ fn body_fine(s: &[u8], kind: Kind, body: usize) -> bool
     }
 }
 
-// Whether a key whose frame is not repeated meets nothing. Nearly every key does not; what one meets is worked out only where it does.
+// Whether a key whose frame is not repeated meets nothing, as nearly every key does; what another meets is worked out only then.
 pub fn fine(s: &[u8], b: Block, frame: u32, body: usize) -> bool
     requires { ⌜ body + bodySize (b .kind) ≤ length (now s) ⌝ }
     ensures { λ r. ⌜ (r ≡ true → (track : ℕ) → none ≡ keyMeets (now (s .entry)) (b .kind) track frame body false) ⌝ }

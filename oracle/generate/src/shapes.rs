@@ -16,6 +16,8 @@ pub enum Count {
 pub enum Chains {
     Consecutive,
     Interleaved,
+    /// One track's, in any order.
+    AnyOrder,
 }
 
 #[derive(Debug, Clone, Copy, PartialEq, Eq)]
@@ -90,11 +92,12 @@ const TRACKS_300: Shape = Shape { tracks: Count::Exactly(300), chains: Chains::I
 const TRACKS_3000: Shape = Shape { tracks: Count::Exactly(3_000), chains: Chains::Interleaved, ..MMD };
 
 /// Sections that are accepted.
-pub const ACCEPTED: [Shape; 15] = [
+pub const ACCEPTED: [Shape; 16] = [
     MMD,
     Shape { name: "1 track, scattered frames", frames: Frames::Scattered, ..MMD },
     Shape { name: "1 track, shuffled", file: File::Shuffled, ..MMD },
     Shape { name: "1 track, shuffled, scattered frames", file: File::Shuffled, frames: Frames::Scattered, ..MMD },
+    Shape { name: "1 track, links in any order", chains: Chains::AnyOrder, ..MMD },
     Shape { name: "1 track, frames far apart", frames: Frames::FarApart, ..MMD },
     Shape { name: "1 track, indices far apart", gap: FAR, ..MMD },
     Shape { name: "1 track, shuffled, indices far apart", gap: FAR, file: File::Shuffled, ..MMD },
@@ -142,9 +145,10 @@ pub const HOSTILE: [Shape; 18] = [
 ];
 
 impl Shape {
-    /// Records in file order with consecutive indices, frames rising, nothing wrong.
+    /// Records in file order with consecutive indices, chains along them, frames rising, nothing wrong.
     pub fn as_mmd_writes(&self) -> bool {
-        self.gap == 1 && self.file == File::InOrder && self.frames == Frames::Rising && self.fault == Fault::Nothing
+        let in_order = self.file == File::InOrder && self.chains != Chains::AnyOrder;
+        self.gap == 1 && in_order && self.frames == Frames::Rising && self.fault == Fault::Nothing
     }
 
     /// The section with so many additional records.
@@ -192,10 +196,13 @@ impl Shape {
         let mut keys: Vec<Vec<usize>> = vec![Vec::new(); tracks];
         for position in 0..additional {
             let track = match self.chains {
-                Chains::Consecutive => position * tracks / additional,
+                Chains::Consecutive | Chains::AnyOrder => position * tracks / additional,
                 Chains::Interleaved => position % tracks,
             };
             keys[track].push(position);
+        }
+        if self.chains == Chains::AnyOrder {
+            keys.iter_mut().for_each(|chain| prng.shuffle(chain));
         }
         let index = |position: usize| (tracks + self.gap * position) as i32;
         let linked = !matches!(self.fault, Fault::NoneReached | Fault::AllLoose);

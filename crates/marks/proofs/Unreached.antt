@@ -4,10 +4,14 @@ use native.Mathlib.Numerals.{add-one}
 use native.Mathlib.Omega.{arith}
 use mathlib.Core.Bool.{Bool, true, false, cond, not, _&&_}
 use mathlib.Core.Path.{_≡_, refl, sym, _∙_, subst}
+use Rattle.layout.specs.Walk.{answered}
 use Rattle.clip.specs.First.{number}
 use Rattle.clip.specs.Fields.{Records, Kind}
-use Rattle.clip.specs.Build.{reached, bothLinksZero, disconnected, loose}
+use Rattle.clip.specs.Scan.{Indexed}
+use Rattle.clip.specs.Chain.{chain}
+use Rattle.clip.specs.Build.{chainOf, reached, bothLinksZero, disconnected, linksFollowed, loose}
 use Rattle.clip.proofs.Counting.{number-le}
+use Rattle.clip.proofs.Reached.{all-counted}
 
 number-more : (n : ℕ) (f : ℕ → Bool) (b : Bool) → f n ≡ b → number (n + 1) f ≡ number n f + cond b 1 0
 unfolding number
@@ -63,3 +67,9 @@ module _ {B : Type 0} {kind : Kind} {r : Records B} where
 
       pub leaves : reached kind r p ≡ false → bothLinksZero kind r p ≡ false → Counted kind r (cut + 1) idle (p + 1)
       leaves is zeros = more false false is zeros (cut + 1) idle refl (omega arith)
+
+-- Where as many links are followed as there are records, none is left.
+pub all-reached : {B : Type 0} (kind : Kind) (r : Records B) → Indexed r → ((t : ℕ) → t < r .tracks → chain kind r t ≡ answered (chainOf kind r t)) → linksFollowed kind r ≡ r .additional → (disconnected kind r ≡ 0) × (loose kind r ≡ 0)
+all-reached kind r x ended all =
+    let parts = all-counted kind r x ended in
+    (omega (arith, parts, all), omega (arith, parts, all))

@@ -12,16 +12,11 @@ abbrev pub marked : ℕ → List ℕ → List ℕ → List ℕ
 marked mark [] marks = marks
 marked mark (p ∷ ps) marks = marked mark ps (set marks p mark)
 
--- "15 unreached records with a nonzero link (how many)"; "loose (unreached additional records, both links 0)", where so many links were
--- followed.
-abbrev pub countsWith : List ℕ → Block → ℕ → Counts
-countsWith s b followed =
+-- "15 unreached records with a nonzero link (how many)"; "reached (links followed) and loose (unreached additional records, both links 0)"
+abbrev pub countsOf : List ℕ → Block → Counts
+countsOf s b =
     record {
       disconnected = Build.disconnected (kindOf (b .kind)) (links s b);
-      reached = followed;
+      reached = Build.linksFollowed (kindOf (b .kind)) (links s b);
       loose = Build.loose (kindOf (b .kind)) (links s b);
     }
-
--- "reached (links followed)"
-abbrev pub countsOf : List ℕ → Block → Counts
-countsOf s b = countsWith s b (Build.linksFollowed (kindOf (b .kind)) (links s b))

@@ -21,7 +21,7 @@ Exit statuses:
   1  the strips differ
   2  the arguments are not understood, or the strip would take the place of its section
   3  the library refused the section; the number is that of document 01
-  4  a file cannot be read or written
+  4  a file cannot be read or written, or the report cannot be printed
   5  a strip is malformed
   6  a project, given without --model or --start; or not a PMMv2 project, or it has no model of that number
 
@@ -58,8 +58,9 @@ intake strip FILE -o OUT [--start N | --model N] [--json]: the strip of a sectio
 Writes the strip to OUT and tells its length, how many links its chains follow (reached) and how many records
 no chain reaches (loose). Where the section is refused or the strip cannot be written, OUT is left as it was:
 the strip is written to a new file beside OUT, which takes OUT's place, with its permissions, once it is whole.
-What is no regular file, as a pipe, is written directly. FILE and OUT must not be the same file, by whatever
-names or links.
+A run that is killed meanwhile leaves that file, called .intake- and numbers. What is no regular file, as a pipe,
+is written directly, and a standard output that is closed keeps nothing. FILE and OUT must not be the same file,
+by whatever names, links or redirections. An OUT whose name begins with - is given as ./-name.
 
   FILE         a file that holds the section; - for standard input
   -o OUT       the strip's file, also --output OUT; - for standard output, and then the report is on standard error

@@ -115,20 +115,24 @@ fn given(arguments: &[OsString]) -> Result<Given, String> {
             Some("--start") => &mut given.start,
             Some("--model") => &mut given.model,
             Some("-o" | "--output") => &mut given.output,
-            Some(option) if option.starts_with('-') && option != "-" => {
-                return Err(format!("no option is called {option}"));
-            }
+            Some(option) if is_option(argument) => return Err(format!("no option is called {option}")),
             _ => {
                 given.files.push(argument.clone());
                 continue;
             }
         };
-        let value = rest.next().ok_or(format!("{} lacks what follows it", argument.to_string_lossy()))?;
+        let value = rest.next().filter(|value| !is_option(value));
+        let value = value.ok_or(format!("{} lacks what follows it", argument.to_string_lossy()))?;
         if place.replace(value.clone()).is_some() {
             return Err(format!("{} is given twice", argument.to_string_lossy()));
         }
     }
     Ok(given)
+}
+
+/// A file whose name begins with - can be given as ./-name.
+fn is_option(argument: &OsStr) -> bool {
+    argument != "-" && argument.as_encoded_bytes().starts_with(b"-")
 }
 
 fn section(subcommand: &str, given: Given) -> Result<Section, String> {

@@ -20,13 +20,28 @@ pub fn write(output: &OsStr, bytes: &[u8]) -> io::Result<()> {
     }
 }
 
-/// The regular file that the name leads to, or the name itself where there is nothing yet. None for a pipe, a device or
-/// a link that leads nowhere: these are written directly.
+/// The regular file that the name leads to, or the name where there is nothing yet. None for a pipe or a device, which
+/// are written directly.
 fn replaceable(output: &Path) -> Option<PathBuf> {
     match fs::canonicalize(output) {
         Ok(path) => path.is_file().then_some(path),
-        Err(_) => fs::symlink_metadata(output).is_err().then(|| output.to_owned()),
+        Err(_) => nothing_yet(output),
     }
+}
+
+/// As many links as Linux follows.
+const LINKS: usize = 40;
+
+/// The name that a name leads to, link by link, where nothing stands there.
+fn nothing_yet(output: &Path) -> Option<PathBuf> {
+    let mut path = output.to_owned();
+    for _ in 0..LINKS {
+        match fs::read_link(&path) {
+            Ok(next) => path = path.with_file_name("").join(next),
+            Err(_) => return fs::symlink_metadata(&path).is_err().then_some(path),
+        }
+    }
+    None
 }
 
 /// Writes a new file beside the old one, which takes its place once it is whole.

@@ -26,21 +26,23 @@ mod inode {
 
     pub fn replaces(input: &OsStr, output: &OsStr) -> bool {
         let input = if input == "-" { of_stream(io::stdin()) } else { fs::metadata(input).ok() };
-        output != "-" && is_one(input.filter(Metadata::is_file), output)
+        let output = if output == "-" { of_stream(io::stdout()) } else { fs::metadata(output).ok() };
+        is_one(input.filter(Metadata::is_file), output)
     }
 
     /// A device, as a terminal is, can be written by both of its names.
     pub fn is_standard_output(output: &OsStr) -> bool {
-        is_one(of_stream(io::stdout()).filter(|found| !found.file_type().is_char_device()), output)
+        let stream = of_stream(io::stdout()).filter(|found| !found.file_type().is_char_device());
+        is_one(stream, fs::metadata(output).ok())
     }
 
     fn of_stream(stream: impl AsFd) -> Option<Metadata> {
         File::from(stream.as_fd().try_clone_to_owned().ok()?).metadata().ok()
     }
 
-    fn is_one(found: Option<Metadata>, path: &OsStr) -> bool {
+    fn is_one(found: Option<Metadata>, other: Option<Metadata>) -> bool {
         let identity = |found: Metadata| (found.dev(), found.ino());
-        found.map(identity).is_some_and(|found| fs::metadata(path).is_ok_and(|other| identity(other) == found))
+        found.map(identity).is_some_and(|found| other.map(identity) == Some(found))
     }
 }
 

@@ -1,5 +1,4 @@
 -- `mark` meets its contract. Assumes nothing.
-use Rattle.marks.specs.Marks.{countsWith}
 use lib.ListN.{replicate}
 use mathlib.Core.Path.{ap, _∙_}
 use Prim.Native.Nat.{ℕ}
@@ -16,15 +15,16 @@ mark-tracks-requires c κs =
     (start .pre .0, (start .pre .1 .0, c .before .before .before .clear .ensures ∙ ap (λ (n : ℕ). replicate n 0) (start .pre .1 .1)))
 
 count-requires : tie.Need-count-requires
-count-requires c κs = search needs
+count-requires c κs =
+    let start = c .before .before .before .before .before .before .before .before .before .before .before .before in
+    let tracks = c .before .before .before .mark-tracks .ensures in
+    (start .pre .0 .fits, (start .pre .0 .indexed, (start .pre .1 .0, (tracks .1, tracks .0))))
 
 same-length : tie.Need-same-length
 same-length c = search needs
 
 returns : tie.Need-returns
-returns c =
-    let start = c .before .before .before .before .before .before .before .before .before .before .before .before .before in
-    (c .before .before .before .before .mark-tracks .ensures .0, c .count .ensures ∙ ap (countsWith (start .args .s .now) (start .args .b)) (c .before .before .before .before .mark-tracks .ensures .1))
+returns c = (c .before .before .before .before .mark-tracks .ensures .0, c .count .ensures)
 
 pub mark-spec : {M : Type 1} → statement M
 mark-spec =

@@ -1,8 +1,7 @@
 -- `build_tracks` meets its contract. Assumes nothing.
-use Rattle.strip_call.proofs.Built.{length-each, reports}
+use Rattle.strip_call.proofs.Built.{all-end, length-each, reports}
 use Rattle.strip_call.specs.Building.{Builds}
 use Rattle.strip_call.specs.declared.answer.BuiltKind.{BuiltKind}
-use Rattle.marks.specs.Marks.{countsWith}
 use Rattle.marks.specs.Rising.{AllMarked, TracksMarked}
 use Rattle.marks.specs.declared.rising.Rising.{Rising}
 use lib.ListN.{length}
@@ -22,7 +21,10 @@ marked : (c : tie.After-count-arg) → let start = c .before .before .before .be
 marked c = let start = c .before .before .before .before .before .before .before .before .before .before .before in subst (λ (k : Rising). TracksMarked (start .args .s .now) (start .args .b) (c .before .before .before .before .before .before .mark-rising .last .1 .1 .1 .0) k) (c .before .before .reached .given .1) (c .before .before .before .before .before .before .mark-rising .ensures .0)
 
 count-requires : tie.Need-count-requires
-count-requires c κs = (c .before .before .before .before .before .before .before .before .before .before .before .pre .0 .fits, marked c .marks)
+count-requires c κs =
+    let start = c .before .before .before .before .before .before .before .before .before .before .before in
+    let all = marked c in
+    (start .pre .0 .fits, (start .pre .0 .indexed, (all-end (start .args .s .now) (start .args .b) (all .passes), (all .followed, all .marks))))
 
 report-requires : tie.Need-report-requires
 report-requires c κs = search needs
@@ -42,8 +44,7 @@ returns c =
     let s = start .args .s .now in
     let b = start .args .b in
     let all = marked (c .before .before) in
-    let counts = c .before .count .ensures ∙ ap (countsWith s b) (all .followed) in
-    let told = reports s b _ counts (start .pre .1 .0) (all .passes) (start .args .slots .now) (c .before .before .before .before .before .before .before .before .mark-rising .last .1 .1 .1 .0) (start .pre .0) (all .marks) in
+    let told = reports s b _ (c .before .count .ensures) (start .pre .1 .0) (all .passes) (start .args .slots .now) (c .before .before .before .before .before .before .before .before .mark-rising .last .1 .1 .1 .0) (start .pre .0) (all .marks) in
     (subst (λ (k : BuiltKind). Builds s b (start .args .slots .now) (c .before .before .before .before .before .before .before .before .mark-rising .last .1 .1 .1 .0) k) (sym (c .report .ensures)) told, c .before .before .before .before .before .before .before .before .mark-rising .ensures .1)
 
 same-length-2 : tie.Need-same-length-2

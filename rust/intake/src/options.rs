@@ -121,7 +121,8 @@ fn given(arguments: &[OsString]) -> Result<Given, String> {
                 continue;
             }
         };
-        let value = rest.next().filter(|value| !is_option(value));
+        let takes_file = argument == "-o" || argument == "--output";
+        let value = rest.next().filter(|value| !(takes_file && is_option(value)));
         let value = value.ok_or(format!("{} lacks what follows it", argument.to_string_lossy()))?;
         if place.replace(value.clone()).is_some() {
             return Err(format!("{} is given twice", argument.to_string_lossy()));

@@ -1,6 +1,6 @@
 //! Where `intake strip` writes: links, failures, and standard output by other names.
 
-use std::fs::{self, File, Permissions};
+use std::fs::{self, File, OpenOptions, Permissions};
 use std::os::unix::fs::{PermissionsExt, symlink};
 use std::process::Command;
 
@@ -27,6 +27,12 @@ fn not_over_the_section() {
     let mut redirected = Command::new(env!("CARGO_BIN_EXE_intake"));
     redirected.args(["strip", "-", "-o", &hard]).stdin(File::open(&section).expect("opened"));
     assert_eq!(redirected.output().expect("ended").status.code(), Some(2));
+    for output in ["-", "/dev/stdout"] {
+        let mut redirected = Command::new(env!("CARGO_BIN_EXE_intake"));
+        let stream = OpenOptions::new().append(true).open(&section).expect("opened");
+        redirected.args(["strip", &section, "-o", output]).stdout(stream);
+        assert_eq!(redirected.output().expect("ended").status.code(), Some(2), "{output}");
+    }
     assert_eq!(fs::read(&section).expect("read"), sample("stdin"));
     assert!(fs::symlink_metadata(&soft).expect("there").is_symlink());
 }
@@ -78,15 +84,16 @@ fn limited(blocks: u32, output: &str) -> Ran {
 #[test]
 fn failed_write() {
     let folder = empty_folder("output failed write");
-    let (old, link, new) = (format!("{folder}/old"), format!("{folder}/link"), format!("{folder}/new"));
+    let [old, link, new, nowhere] = ["old", "link", "new", "nowhere"].map(|name| format!("{folder}/{name}"));
     fs::write(&old, b"as it was").expect("written");
     symlink("old", &link).expect("linked");
-    for output in [&old, &link, &new] {
+    symlink("new", &nowhere).expect("linked");
+    for output in [&old, &link, &new, &nowhere] {
         let ran = limited(0, output);
         assert_eq!((ran.status, ran.output.len()), (4, 0), "{output}");
         assert!(ran.error.starts_with(&format!("intake: {output}: File too large")), "{}", ran.error);
         assert_eq!(fs::read(&old).expect("read"), b"as it was");
-        assert_eq!(names(&folder), ["link", "old"]);
+        assert_eq!(names(&folder), ["link", "nowhere", "old"]);
     }
     let ran = limited(1, &old);
     assert_eq!((ran.status, ran.error.as_str()), (0, ""));
@@ -112,7 +119,23 @@ fn replaced() {
     fs::remove_file(&old).expect("removed");
     assert_eq!(intake_with(&["strip", "-", "-o", &link], &sample("stdin")).status, 0);
     assert_eq!(fs::read(&old).expect("read"), strip);
-    assert_eq!(names(&folder), ["link", "new", "old"]);
+    // And by two links, one of them absolute.
+    fs::remove_file(&old).expect("removed");
+    let further = format!("{folder}/further");
+    symlink(&link, &further).expect("linked");
+    assert_eq!(intake_with(&["strip", "-", "-o", &further], &sample("stdin")).status, 0);
+    assert_eq!(fs::read(&old).expect("read"), strip);
+    assert_eq!(names(&folder), ["further", "link", "new", "old"]);
+}
+
+/// A link that leads to itself is an error, and stays one.
+#[test]
+fn link_to_itself() {
+    let folder = empty_folder("output link to itself");
+    let link = format!("{folder}/link");
+    symlink("link", &link).expect("linked");
+    let ran = intake_with(&["strip", "-", "-o", &link], &sample("stdin"));
+    assert_eq!((ran.status, names(&folder)), (4, vec!["link".into()]));
 }
 
 /// What is no regular file is written directly.

@@ -33,9 +33,11 @@ fn arguments() {
     not_understood(&["compare", "a", "b", "c"], "compare takes two strips, not 3");
     not_understood(&["compare", "a", "b", "--start", "1"], "compare takes no --start, --model or -o");
     not_understood(&["compare", "-", "-"], "only one of the two strips can be standard input");
-    let last = intake(&["strip", "a", "-o"]);
-    assert_eq!((last.status, last.output.len()), (2, 0));
-    assert!(last.error.starts_with("intake: -o lacks what follows it"), "{}", last.error);
+    for arguments in [&["strip", "a", "-o"][..], &["strip", "a", "-o", "--"], &["strip", "-o", "-h", "a"]] {
+        let last = intake(arguments);
+        assert_eq!((last.status, last.output.len()), (2, 0), "{arguments:?}");
+        assert!(last.error.starts_with("intake: -o lacks what follows it"), "{}", last.error);
+    }
 }
 
 /// Where standard output is to take the strip, nothing else goes there.

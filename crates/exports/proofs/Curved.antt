@@ -1,7 +1,7 @@
 -- A bone's four curves, written one behind the other. Assumes nothing.
 use Prim.Native.Nat.{ℕ}
 use mathlib.Core.List.{List, []}
-use mathlib.Core.Path.{_≡_, refl, sym, subst}
+use mathlib.Core.Path.{_≡_, refl, subst}
 use lib.ListN.{getD}
 use Rattle.layout.specs.Walk.{Answer, answered, declined}
 use Rattle.lists.specs.Interpolation.{curvesOr}

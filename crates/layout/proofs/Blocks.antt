@@ -1,16 +1,14 @@
 -- A block of records of fixed items is whole or not by arithmetic alone, and the place of the first item that is not whole can be
 -- worked out. Assumes nothing.
 use Prim.Native.Nat.{ℕ, zero, suc, _+_, _-_, _*_, _/_, _%_, _≤_, _<_}
-use mathlib.Core.Bool.{Bool, true, false, cond}
 use mathlib.Core.List.{List, [], _∷_, _++_}
-use mathlib.Core.Path.{_≡_, refl, sym, ap, subst, _∙_}
-use native.Mathlib.Nat.{suc-mul, zero-mul, mul-zero, div-add-mod', mod-lt, div-eq-of-lt, mod-eq-of-lt, div-eq-sub-div, mod-eq-sub-mod, le-div-iff-mul-le, zero-div}
+use mathlib.Core.Path.{_≡_, sym, ap, _∙_}
+use native.Mathlib.Nat.{suc-mul, zero-mul, mul-zero, div-eq-of-lt, mod-eq-of-lt, div-eq-sub-div, mod-eq-sub-mod}
 use native.Mathlib.Numerals.{add-one}
-use native.Mathlib.Decide.{decLe, decLt}
+use native.Mathlib.Decide.{decLe}
 use native.Mathlib.Omega.{arith}
 use borrow.Author.Tests.{le-leb, lt-leb}
 use lib.ListN.{length, replicate}
-use lib.Dec.{leb}
 use Rattle.layout.specs.Walk.{Walk, fine, refusedAt, items, times}
 use Rattle.layout.specs.Records.{size}
 use Rattle.layout.specs.Blocks.{place, runPlace}

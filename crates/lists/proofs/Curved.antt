@@ -1,11 +1,11 @@
 -- The curves of a bone record that was read stand in the section. Assumes nothing.
 use Prim.Native.Nat.{ℕ, _+_, _≤_}
 use mathlib.Core.Bool.{Bool}
-use mathlib.Core.List.{List, []}
-use mathlib.Core.Path.{_≡_, refl, sym, ap, subst, _∙_}
+use mathlib.Core.List.{List}
+use mathlib.Core.Path.{_≡_, refl, ap, subst, _∙_}
 use native.Mathlib.Omega.{arith}
 use lib.ListN.{length}
-use Rattle.layout.specs.Walk.{Walk, fine, refused, after, Answer, answered, answer, entryOf}
+use Rattle.layout.specs.Walk.{Walk, fine, refused, after, answered, answer, entryOf}
 use Rattle.layout.proofs.Inversion.{came, same-value}
 use Rattle.records.specs.Base.{spanOf}
 use Rattle.records.specs.Keyframes.{boneBits, boneOf}

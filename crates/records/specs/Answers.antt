@@ -1,5 +1,4 @@
 -- What each answer says in document 01's terms: what was read and the offset behind it, or refusal 1 at its place.
-use Prim.Native.Nat.{ℕ}
 use Rattle.layout.specs.Walk.{Walk, fine, refusedAt}
 use Rattle.records.specs.declared.base.BaseBits.{BaseBits}
 use Rattle.records.specs.declared.base.ReadBase.{ReadBase}

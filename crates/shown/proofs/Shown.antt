@@ -1,22 +1,18 @@
 -- The record of a number that a call shows is the record of that position that a build takes: the same index, frame, links, pose or weight,
 -- and curves. Assumes nothing.
-use Prim.Native.Nat.{ℕ, _+_, _*_, _≤_, _<_}
+use Prim.Native.Nat.{ℕ, _<_}
 use native.Mathlib.Omega.{arith}
 use mathlib.Core.Bool.{true, false}
 use mathlib.Core.List.{List as ListOf}
-use mathlib.Core.Path.{_≡_, refl, sym, ap, subst, _∙_}
-use lib.ListN.{length}
+use mathlib.Core.Path.{_≡_, refl, sym, ap, subst}
 use Rattle.layout.specs.Walk.{fine, answered}
-use Rattle.layout.specs.Records.{size, initial, additional, bone, morph}
+use Rattle.layout.specs.Records.{initial, additional, bone, morph}
 use Rattle.records.specs.Base.{baseOf, spanOf}
-use Rattle.records.specs.Pose.{poseOf, float}
-use Rattle.records.specs.Keyframes.{boneBits, boneOf, morphBits, morphOf}
+use Rattle.records.specs.Keyframes.{boneOf, morphOf}
 use Rattle.records.specs.declared.base.BaseBits.{BaseBits}
 use Rattle.records.specs.declared.base.KeyframeIndex.{KeyframeIndex}
 use Rattle.records.specs.declared.base.PmmDocumentBaseKeyframeSummary.{PmmDocumentBaseKeyframeSummary}
-use Rattle.records.specs.declared.bone.BoneBits.{BoneBits}
 use Rattle.records.specs.declared.bone.PmmDocumentBoneKeyframeSummary.{PmmDocumentBoneKeyframeSummary}
-use Rattle.records.specs.declared.morph.MorphBits.{MorphBits}
 use Rattle.records.specs.declared.morph.PmmDocumentMorphKeyframeSummary.{PmmDocumentMorphKeyframeSummary}
 use Rattle.section.specs.Limits.{Limits}
 use Rattle.section.specs.Model.{modelSection}
@@ -26,7 +22,7 @@ use Rattle.lists.specs.Keyframes.{boneKeyframe, morphKeyframe}
 use Rattle.lists.specs.declared.lists.List.{List}
 use Rattle.clip.specs.Fields.{Initial, Additional, BoneBody, signed}
 use Rattle.clip.specs.Keys.{posed, floatAt}
-use Rattle.clip.specs.Section.{bytesAt, boneBody, morphBody, recordsAt, bones, morphs}
+use Rattle.clip.specs.Section.{bytesAt, recordsAt, bones, morphs}
 use Rattle.clip.proofs.Facts.{Blocks, blocks}
 use Rattle.keys.proofs.AsShown.{AdditionalShown, InitialShown, bone-shown, initial-bone-shown, morph-shown, initial-morph-shown, curves-shown, initial-curves-shown}
 use Rattle.shown.proofs.Located.{ReadAt, read-at}

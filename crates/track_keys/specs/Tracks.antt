@@ -1,5 +1,5 @@
 -- What the keys of the tracks meet. Definitions only.
-use Prim.Native.Nat.{ℕ, zero, suc, _<_}
+use Prim.Native.Nat.{ℕ, zero, suc}
 use mathlib.Core.List.{List, [], _∷_}
 use mathlib.Core.Option.{Option}
 use mathlib.Core.Path.{_≡_}
@@ -9,7 +9,7 @@ use Rattle.clip.specs.Fields.{Records}
 use Rattle.clip.specs.First.{first}
 use Rattle.clip.specs.Chain.{chain}
 use Rattle.clip.specs.Keys.{KeyTest, keyTest}
-use Rattle.clip.specs.Build.{chainOf, recordsRefusal, trackRefusal}
+use Rattle.clip.specs.Build.{recordsRefusal, trackRefusal}
 use Rattle.chains.specs.Block.{kindOf, links}
 use Rattle.track_keys.specs.Keys.{askedAt}
 use Rattle.chains.specs.declared.block.Block.{Block}

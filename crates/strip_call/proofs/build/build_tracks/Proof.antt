@@ -1,11 +1,10 @@
 -- `build_tracks` meets its contract. Assumes nothing.
-use Rattle.strip_call.proofs.Built.{all-end, length-each, reports}
+use Rattle.strip_call.proofs.Built.{all-end, reports}
 use Rattle.strip_call.specs.Building.{Builds}
 use Rattle.strip_call.specs.declared.answer.BuiltKind.{BuiltKind}
 use Rattle.marks.specs.Rising.{AllMarked, TracksMarked}
 use Rattle.marks.specs.declared.rising.Rising.{Rising}
-use lib.ListN.{length}
-use mathlib.Core.Path.{_≡_, sym, ap, _∙_, subst}
+use mathlib.Core.Path.{sym, _∙_, subst}
 use borrow.Author.Needs.{needs}
 use Rattle.strip_call.proofs.build.build_tracks.Statement.{statement}
 use Rattle.strip_call.proofs.build.build_tracks.Tie as tie

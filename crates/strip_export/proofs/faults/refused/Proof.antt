@@ -1,5 +1,5 @@
 -- `refused` meets its contract, fault by fault. Assumes nothing.
-use mathlib.Core.Path.{_≡_, refl}
+use mathlib.Core.Path.{refl}
 use Rattle.chains.specs.Fault.{faultOf}
 use Rattle.strip_export.proofs.Told.{told}
 use borrow.Author.Needs.{needs}

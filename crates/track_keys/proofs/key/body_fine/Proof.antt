@@ -1,6 +1,5 @@
 -- `body_fine` meets its contract. Assumes nothing.
 use Prim.Native.Nat.{ℕ, _+_, _≤_}
-use mathlib.Core.Option.{Option, none}
 use mathlib.Core.Path.{_≡_, sym, ap, _∙_, subst}
 use native.Mathlib.Omega.{arith}
 use lib.ListN.{length}
@@ -8,7 +7,6 @@ use Rattle.clip.specs.Keys.{weightAsked}
 use Rattle.keys.specs.Answers.{askedRead}
 use Rattle.keys.proofs.Asking.{weight-fine}
 use Rattle.chains.specs.Block.{bodySize}
-use Rattle.track_keys.specs.Keys.{askedAt}
 use Rattle.chains.specs.declared.block.Kind.{Kind}
 use borrow.Author.Needs.{needs}
 use Rattle.track_keys.proofs.key.body_fine.Statement.{statement}

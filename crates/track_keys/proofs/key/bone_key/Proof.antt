@@ -1,10 +1,9 @@
 -- `bone_key` meets its contract. Assumes nothing.
 use mathlib.Core.Path.{_≡_, sym, ap, _∙_}
-use Prim.Native.Nat.{ℕ}
-use mathlib.Core.Option.{Option}
+use Rattle.clip.specs.Keys.{bodyRefusal}
 use Rattle.keys.specs.Answers.{askedRead}
 use Rattle.keys.specs.declared.pose.Asked.{Asked}
-use Rattle.track_keys.specs.Keys.{askedAt}
+use Rattle.track_keys.specs.Keys.{keyMeets}
 use Rattle.chains.specs.declared.block.Kind.{Kind}
 use Rattle.track_keys.proofs.OneKey.{frame-refused, body-asked}
 use borrow.Author.Needs.{needs}
@@ -37,20 +36,20 @@ returns c =
     let start = c .before .before .before .before .before in
     frame-refused (start .args .s .now) Kind.Bone (start .args .track .0) (start .args .frame) (start .args .body) (start .args .repeated) _ (c .before .before .before .frame-asked .ensures) (c .before .fault .given .1)
 
+-- What is asked of the body gave a.
+met : (c : tie.After-bone-asked) {a : Asked} → c .bone-asked .result ≡ a → let args = c .before .before .before .before .before .args in bodyRefusal (askedRead a) (args .track .0) (args .frame) ≡ keyMeets (args .s .now) Kind.Bone (args .track .0) (args .frame) (args .body) (args .repeated)
+met c seen =
+    let args = c .before .before .before .before .before .args in
+    body-asked (args .s .now) Kind.Bone (args .track .0) (args .frame) (args .body) (args .repeated) _ (c .before .before .before .frame-asked .ensures) (c .before .enum-told .given .1) (sym (ap askedRead seen) ∙ c .bone-asked .ensures)
+
 returns-2 : tie.Need-returns-2
-returns-2 c =
-    let start = c .before .before .before .before .before .before .before in
-    λ count. body-asked (start .args .s .now) Kind.Bone (start .args .track .0) (start .args .frame) (start .args .body) (start .args .repeated) _ (c .before .before .before .before .before .frame-asked .ensures) (c .before .before .before .enum-told .given .1) (sym (ap askedRead (c .enum-told2 .given .1)) ∙ c .before .before .bone-asked .ensures)
+returns-2 c = λ count. met (c .before .before) (c .enum-told2 .given .1)
 
 returns-3 : tie.Need-returns-3
-returns-3 c =
-    let start = c .before .before .before .before .before .before .before in
-    λ count. body-asked (start .args .s .now) Kind.Bone (start .args .track .0) (start .args .frame) (start .args .body) (start .args .repeated) _ (c .before .before .before .before .before .frame-asked .ensures) (c .before .before .before .enum-told .given .1) (sym (ap askedRead (c .enum-told3 .given .1)) ∙ c .before .before .bone-asked .ensures)
+returns-3 c = λ count. met (c .before .before) (c .enum-told3 .given .1)
 
 returns-4 : tie.Need-returns-4
-returns-4 c =
-    let start = c .before .before .before .before .before .before .before in
-    λ count. body-asked (start .args .s .now) Kind.Bone (start .args .track .0) (start .args .frame) (start .args .body) (start .args .repeated) _ (c .before .before .before .before .before .frame-asked .ensures) (c .before .before .before .enum-told .given .1) (sym (ap askedRead (c .enum-told4 .given .1)) ∙ c .before .before .bone-asked .ensures)
+returns-4 c = λ count. met (c .before .before) (c .enum-told4 .given .1)
 
 pub bone-key-spec : {M : Type 1} → statement M
 bone-key-spec =

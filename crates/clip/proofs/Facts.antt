@@ -1,5 +1,5 @@
--- What holds of the records of a section that was read: their counts are within the limits, and the blocks stand one behind the other in the
--- lent bytes. Assumes nothing.
+-- What holds of the records, names and states of a section that was read: counts are within the limits, the names were read, and the blocks of
+-- records and the states stand one behind the other in the lent bytes. Assumes nothing.
 use Prim.Native.Nat.{ℕ, zero, suc, _+_, _*_, _≤_}
 use native.Mathlib.Nat.{suc-mul, zero-mul}
 use native.Mathlib.Omega.{arith}
@@ -70,7 +70,7 @@ pub record Block (tracks initialSize additionalSize most at next : ℕ) (k : Key
   pub ends : next ≡ k .offset + k .count * additionalSize
   pub within : k .count ≤ most
 
-block-is : (tracks : ℕ) (initialItems additionalItems : List ℕ) (limit : ℕ) (s : List ℕ) (at : ℕ) (k : Keyframes) (next : ℕ) → keyframes tracks initialItems additionalItems limit s at ≡ fine k next → Block tracks (size initialItems) (size additionalItems) limit at next k
+pub block-is : (tracks : ℕ) (initialItems additionalItems : List ℕ) (limit : ℕ) (s : List ℕ) (at : ℕ) (k : Keyframes) (next : ℕ) → keyframes tracks initialItems additionalItems limit s at ≡ fine k next → Block tracks (size initialItems) (size additionalItems) limit at next k
 unfolding keyframes
 block-is tracks initialItems additionalItems limit s at k next e =
     let a = came (times tracks (items initialItems) s at) _ k next e in
@@ -90,93 +90,121 @@ block-is tracks initialItems additionalItems limit s at k next e =
       within = counted limit s (a .at) (c .value) (c .at) (c .first) .within;
     })
 
--- The blocks of bones and morphs.
+-- The states, one list behind the other.
+pub record StateLists (c : Counts) (at next : ℕ) (v : States) : Type 0 where
+  pub bones : v .bones ≡ at
+  pub morphs : v .morphs ≡ v .bones + c .bones .count * size boneState
+  pub constraints : v .constraints ≡ v .morphs + c .morphs .count * size morphState
+  pub parents : v .parents ≡ v .constraints + c .constraints * size constraintState
+  pub ends : next ≡ v .parents + c .parents * size parentState
+
+-- A count and its names.
+pub record NamesRead (limit : ℕ) (s : List ℕ) (n : Names) : Type 0 where
+  pub end : ℕ
+  pub read : times (n .count) string s (n .offset) ≡ fine tt end
+  pub within : n .count ≤ limit
+
+-- The items of a model record.
+abbrev pub modelItems : Counts → List ℕ
+modelItems c = model (c .constraints) (c .parents)
+
+-- The names, the blocks of bones, morphs and model records, and the states behind them.
 pub record Blocks (limits : Limits) (s : List ℕ) (m : Model) : Type 0 where
   pub at : ℕ
   pub between : ℕ
   pub end : ℕ
-  pub boneCount : m .front .counts .bones .count ≤ limits .tracks
-  pub morphCount : m .front .counts .morphs .count ≤ limits .tracks
+  pub behind : ℕ
+  pub last : ℕ
+  pub boneNames : NamesRead (limits .tracks) s (m .front .counts .bones)
+  pub morphNames : NamesRead (limits .tracks) s (m .front .counts .morphs)
   pub bones : Block (m .front .counts .bones .count) (size (initial bone)) (size (additional bone)) (limits .additional) at between (m .keyframes .bones)
   pub morphs : Block (m .front .counts .morphs .count) (size (initial morph)) (size (additional morph)) (limits .additional) between end (m .keyframes .morphs)
+  pub models : Block 1 (size (initial (modelItems (m .front .counts)))) (size (additional (modelItems (m .front .counts)))) unlimited end behind (m .keyframes .models)
+  pub states : StateLists (m .front .counts) behind last (m .states)
   pub within : end ≤ length s
+  pub whole : last ≤ length s
 
-names-within : (limit : ℕ) (s : List ℕ) (at : ℕ) (n : Names) (next : ℕ) → names limit s at ≡ fine n next → n .count ≤ limit
+names-read : (limit : ℕ) (s : List ℕ) (at : ℕ) (n : Names) (next : ℕ) → names limit s at ≡ fine n next → NamesRead limit s n
 unfolding names
-names-within limit s at n next e =
+names-read limit s at n next e =
     let c = came (count limit s at) _ n next e in
     let t = came (times (c .value) string s (c .at)) _ n next (c .rest) in
     let made : Names = record { count = c .value; offset = c .at } in
     let is : made ≡ n = same-value (t .rest) in
-    subst (λ (n : Names). n .count ≤ limit) is (counted limit s at (c .value) (c .at) (c .first) .within)
+    subst (λ (n : Names). NamesRead limit s n) is
+    (record { end = t .at; read = t .first; within = counted limit s at (c .value) (c .at) (c .first) .within })
 
-counts-within : (limits : Limits) (s : List ℕ) (at : ℕ) (c : Counts) (next : ℕ) → counts limits s at ≡ fine c next → (c .bones .count ≤ limits .tracks) × (c .morphs .count ≤ limits .tracks)
+-- The names of bones and of morphs.
+abbrev BothRead : Limits → List ℕ → Counts → Type 0
+BothRead limits s c = NamesRead (limits .tracks) s (c .bones) × NamesRead (limits .tracks) s (c .morphs)
+
+counts-read : (limits : Limits) (s : List ℕ) (at : ℕ) (c : Counts) (next : ℕ) → counts limits s at ≡ fine c next → BothRead limits s c
 unfolding counts
-counts-within limits s at c next e =
+counts-read limits s at c next e =
     let bones = came (names (limits .tracks) s at) _ c next e in
     let morphs = came (names (limits .tracks) s (bones .at)) _ c next (bones .rest) in
     let constraints = came (entries s (morphs .at)) _ c next (morphs .rest) in
     let parents = came (entries s (constraints .at)) _ c next (constraints .rest) in
     let made : Counts = record { bones = bones .value; morphs = morphs .value; constraints = constraints .value; parents = parents .value } in
     let is : made ≡ c = same-value (parents .rest) in
-    subst (λ (c : Counts). (c .bones .count ≤ limits .tracks) × (c .morphs .count ≤ limits .tracks)) is
-    (names-within (limits .tracks) s at (bones .value) (bones .at) (bones .first), names-within (limits .tracks) s (bones .at) (morphs .value) (morphs .at) (morphs .first))
+    subst (λ (c : Counts). BothRead limits s c) is
+    (names-read (limits .tracks) s at (bones .value) (bones .at) (bones .first), names-read (limits .tracks) s (bones .at) (morphs .value) (morphs .at) (morphs .first))
 
-front-within : (limits : Limits) (s : List ℕ) (at : ℕ) (f : Front) (next : ℕ) → front limits s at ≡ fine f next → (f .counts .bones .count ≤ limits .tracks) × (f .counts .morphs .count ≤ limits .tracks)
+front-read : (limits : Limits) (s : List ℕ) (at : ℕ) (f : Front) (next : ℕ) → front limits s at ≡ fine f next → BothRead limits s (f .counts)
 unfolding front
-front-within limits s at f next e =
+front-read limits s at f next e =
     let o = came (opening s at) _ f next e in
     let c = came (counts limits s (o .at)) _ f next (o .rest) in
     let v = came (view s (c .at)) _ f next (c .rest) in
     let r = came (scroll s (v .at)) _ f next (v .rest) in
     let made : Front = record { opening = o .value; counts = c .value; view = v .value; scroll = r .value } in
     let is : made ≡ f = same-value (r .rest) in
-    subst (λ (f : Front). (f .counts .bones .count ≤ limits .tracks) × (f .counts .morphs .count ≤ limits .tracks)) is (counts-within limits s (o .at) (c .value) (c .at) (c .first))
+    subst (λ (f : Front). BothRead limits s (f .counts)) is (counts-read limits s (o .at) (c .value) (c .at) (c .first))
 
 -- The records of a model follow those of the morphs.
-record TwoBlocks (limits : Limits) (c : Counts) (at next : ℕ) (k : KeyframeBlocks) : Type 0 where
+record ThreeBlocks (limits : Limits) (c : Counts) (at next : ℕ) (k : KeyframeBlocks) : Type 0 where
   pub between : ℕ
   pub end : ℕ
   pub bones : Block (c .bones .count) (size (initial bone)) (size (additional bone)) (limits .additional) at between (k .bones)
   pub morphs : Block (c .morphs .count) (size (initial morph)) (size (additional morph)) (limits .additional) between end (k .morphs)
-  pub more : end ≤ next
+  pub models : Block 1 (size (initial (modelItems c))) (size (additional (modelItems c))) unlimited end next (k .models)
 
-two-blocks : (limits : Limits) (c : Counts) (s : List ℕ) (at : ℕ) (k : KeyframeBlocks) (next : ℕ) → keyframeBlocks limits c s at ≡ fine k next → TwoBlocks limits c at next k
+three-blocks : (limits : Limits) (c : Counts) (s : List ℕ) (at : ℕ) (k : KeyframeBlocks) (next : ℕ) → keyframeBlocks limits c s at ≡ fine k next → ThreeBlocks limits c at next k
 unfolding keyframeBlocks
-two-blocks limits c s at k next e =
+three-blocks limits c s at k next e =
     let bones = came (keyframes (c .bones .count) (initial bone) (additional bone) (limits .additional) s at) _ k next e in
     let morphs = came (keyframes (c .morphs .count) (initial morph) (additional morph) (limits .additional) s (bones .at)) _ k next (bones .rest) in
-    let items = model (c .constraints) (c .parents) in
-    let models = came (keyframes 1 (initial items) (additional items) unlimited s (morphs .at)) _ k next (morphs .rest) in
+    let models = came (keyframes 1 (initial (modelItems c)) (additional (modelItems c)) unlimited s (morphs .at)) _ k next (morphs .rest) in
     let made : KeyframeBlocks = record { bones = bones .value; morphs = morphs .value; models = models .value } in
     let is : made ≡ k = same-value (models .rest) in
-    let ends = same-next (models .rest) in
-    let last = block-is 1 (initial items) (additional items) unlimited s (morphs .at) (models .value) (models .at) (models .first) in
-    let e1 = last .offset in
-    let e2 = last .ends in
-    subst (λ (k : KeyframeBlocks). TwoBlocks limits c at next k) is
+    let last = block-is 1 (initial (modelItems c)) (additional (modelItems c)) unlimited s (morphs .at) (models .value) (models .at) (models .first) in
+    subst (λ (k : KeyframeBlocks). ThreeBlocks limits c at next k) is
     (record {
       between = bones .at;
       end = morphs .at;
       bones = block-is (c .bones .count) (initial bone) (additional bone) (limits .additional) s at (bones .value) (bones .at) (bones .first);
       morphs = block-is (c .morphs .count) (initial morph) (additional morph) (limits .additional) s (bones .at) (morphs .value) (morphs .at) (morphs .first);
-      more = omega (arith, e1, e2, ends);
+      models = record { begins = last .begins; offset = last .offset; ends = sym (same-next (models .rest)) ∙ last .ends; within = last .within };
     })
 
 -- The states stand behind the records, and the first item behind them is whole.
-states-behind : (c : Counts) (s : List ℕ) (at : ℕ) (v : States) (next : ℕ) → states c s at ≡ fine v next → at ≤ next
+state-lists : (c : Counts) (s : List ℕ) (at : ℕ) (v : States) (next : ℕ) → states c s at ≡ fine v next → StateLists c at next v
 unfolding states
-states-behind c s at v next e =
+state-lists c s at v next e =
     let a = came (times (c .bones .count) (items boneState) s at) _ v next e in
     let b = came (times (c .morphs .count) (items morphState) s (a .at)) _ v next (a .rest) in
     let d = came (times (c .constraints) (items constraintState) s (b .at)) _ v next (b .rest) in
     let f = came (times (c .parents) (items parentState) s (d .at)) _ v next (d .rest) in
-    let ends = same-next (f .rest) in
-    let e1 = times-end (c .bones .count) boneState s at (a .at) (a .first) in
-    let e2 = times-end (c .morphs .count) morphState s (a .at) (b .at) (b .first) in
-    let e3 = times-end (c .constraints) constraintState s (b .at) (d .at) (d .first) in
-    let e4 = times-end (c .parents) parentState s (d .at) (f .at) (f .first) in
-    omega (arith, e1, e2, e3, e4, ends)
+    let made : States = record { bones = at; morphs = a .at; constraints = b .at; parents = d .at } in
+    let is : made ≡ v = same-value (f .rest) in
+    subst (λ (v : States). StateLists c at next v) is
+    (record {
+      bones = refl;
+      morphs = times-end (c .bones .count) boneState s at (a .at) (a .first);
+      constraints = times-end (c .morphs .count) morphState s (a .at) (b .at) (b .first);
+      parents = times-end (c .constraints) constraintState s (b .at) (d .at) (d .first);
+      ends = sym (same-next (f .rest)) ∙ times-end (c .parents) parentState s (d .at) (f .at) (f .first);
+    })
 
 ending-within : (s : List ℕ) (at : ℕ) (v : Ending) (next : ℕ) → ending s at ≡ fine v next → at ≤ length s
 unfolding ending
@@ -198,21 +226,25 @@ blocks limits s start m end e = go (ltb (limits .length) (length s)) e
         let d = came (ending s (t .at)) _ m end (t .rest) in
         let made : Model = record { front = f .value; keyframes = k .value; states = t .value; ending = d .value } in
         let is : made ≡ m = same-value (d .rest) in
-        let counts = front-within limits s start (f .value) (f .at) (f .first) in
-        let two = two-blocks limits (f .value .counts) s (f .at) (k .value) (k .at) (k .first) in
-        let behind = states-behind (f .value .counts) s (k .at) (t .value) (t .at) (t .first) in
-        let last = ending-within s (t .at) (d .value) (d .at) (d .first) in
-        let more = two .more in
+        let both = front-read limits s start (f .value) (f .at) (f .first) in
+        let three = three-blocks limits (f .value .counts) s (f .at) (k .value) (k .at) (k .first) in
+        let lists = state-lists (f .value .counts) s (k .at) (t .value) (t .at) (t .first) in
+        let whole = ending-within s (t .at) (d .value) (d .at) (d .first) in
         subst (λ (m : Model). Blocks limits s m) is
         (record {
           at = f .at;
-          between = two .between;
-          end = two .end;
-          boneCount = counts .0;
-          morphCount = counts .1;
-          bones = two .bones;
-          morphs = two .morphs;
-          within = omega (arith, behind, last, more);
+          between = three .between;
+          end = three .end;
+          behind = k .at;
+          last = t .at;
+          boneNames = both .0;
+          morphNames = both .1;
+          bones = three .bones;
+          morphs = three .morphs;
+          models = three .models;
+          states = lists;
+          within = omega (arith, three .models .offset, three .models .ends, lists .bones, lists .morphs, lists .constraints, lists .parents, lists .ends, whole);
+          whole = whole;
         })
 
     go : (b : Bool) → cond b (refused (refusal 16 [])) (modelParts limits s start) ≡ fine m end → Blocks limits s m

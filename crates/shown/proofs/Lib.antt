@@ -1,2 +1,6 @@
-pub mod Located
+pub mod Entries
+pub mod Whole
+pub mod ModelParts
+pub mod Numbers
+pub mod Tracks
 pub mod Shown

@@ -61,11 +61,11 @@ matched-sections limits width =
 module _ (limits : Limits) (width : ℕ) (wide : Wide limits width) (s : List ℕ) (m : Model) (b : Blocks limits s m) (c : SoundClip s m) where
   bone-count : bones s m .tracks < 256 ^ width
   unfolding bones recordsAt
-  bone-count = let few = b .boneCount in let w = wide .tracks in omega (arith, few, w)
+  bone-count = let few = b .boneNames .within in let w = wide .tracks in omega (arith, few, w)
 
   morph-count : morphs s m .tracks < 256 ^ width
   unfolding morphs recordsAt
-  morph-count = let few = b .morphCount in let w = wide .tracks in omega (arith, few, w)
+  morph-count = let few = b .morphNames .within in let w = wide .tracks in omega (arith, few, w)
 
   bone-records : suc (bones s m .additional) < 256 ^ width
   unfolding bones recordsAt

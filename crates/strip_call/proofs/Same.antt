@@ -77,7 +77,7 @@ module _ (s : List ℕ) (m : Model) where
           records = omega (arith, b2, b3, b4, b5, last);
           initialWidth = omega arith;
           recordWidth = omega arith;
-          fewTracks = b .boneCount;
+          fewTracks = b .boneNames .within;
           fewRecords = b .bones .within;
         }
 
@@ -93,6 +93,6 @@ module _ (s : List ℕ) (m : Model) where
           records = omega (arith, b2, b3, last);
           initialWidth = omega arith;
           recordWidth = omega arith;
-          fewTracks = b .morphCount;
+          fewTracks = b .morphNames .within;
           fewRecords = b .morphs .within;
         }

@@ -12,12 +12,10 @@ use crate::links::Links;
 use crate::table::{figure, table, thousands};
 use crate::timing::{medians, sum, sum_by_bytes};
 
-/// Additional records. Besides the sizes shown there are those whose double is shown, for growth.
-const SIZES: [usize; 6] = [100, 1_000, 10_000, 20_000, 30_000, 60_000];
-const SHOWN: [usize; 4] = [100, 1_000, 10_000, 60_000];
-const HOSTILE_SIZES: [usize; 4] = [10_000, 20_000, 30_000, 60_000];
-const HOSTILE_SHOWN: [usize; 2] = [10_000, 60_000];
-/// Each is held against its half.
+/// Additional records.
+const SIZES: [usize; 4] = [100, 1_000, 10_000, 60_000];
+const HOSTILE_SIZES: [usize; 2] = [10_000, 60_000];
+/// Each is held against its half, in turns.
 const GROWTH: [usize; 2] = [20_000, 60_000];
 /// Document 01's limit of additional records; with one key in each track there are as many tracks as can be.
 const MOST_ADDITIONAL: usize = 65_534;
@@ -31,9 +29,9 @@ pub fn bench(other: &impl Other, only: &str) {
         "Nanoseconds of processor time a key, where a key is an initial or additional record; medians of 3 to 11 rounds."
     );
     let (mmd, orders): (Vec<Shape>, Vec<Shape>) = ACCEPTED.into_iter().partition(Shape::as_mmd_writes);
-    section_to_strip(other, "MMD's own order", &mmd, &SIZES, &SHOWN, only);
-    section_to_strip(other, "Other orders", &orders, &SIZES, &SHOWN, only);
-    section_to_strip(other, "Hostile shapes", &HOSTILE, &HOSTILE_SIZES, &HOSTILE_SHOWN, only);
+    section_to_strip(other, "MMD's own order", &mmd, &SIZES, only);
+    section_to_strip(other, "Other orders", &orders, &SIZES, only);
+    section_to_strip(other, "Hostile shapes", &HOSTILE, &HOSTILE_SIZES, only);
     most(other, only);
     reading(other, only);
 }
@@ -43,7 +41,7 @@ fn reading(other: &impl Other, only: &str) {
     let shapes = ["1 track", "300 tracks, interleaved", "3000 tracks, interleaved", "morphs: 100 tracks, interleaved"];
     let mut rows = Vec::new();
     for shape in ACCEPTED.iter().filter(|shape| shapes.contains(&shape.name) && shape.name.contains(only)) {
-        for n in SHOWN {
+        for n in SIZES {
             let section = shape.section(n);
             let keys = Keys::of(shape, &section);
             let mut values = [0; NUMBERS];
@@ -121,30 +119,26 @@ impl Keys {
 struct Measured {
     name: &'static str,
     rows: Vec<(usize, Row)>,
+    growth: [Growth; GROWTH.len()],
 }
 
 impl Measured {
+    fn of(other: &impl Other, shape: &Shape, sizes: &[usize]) -> Self {
+        eprintln!("{}", shape.name);
+        let rows = sizes.iter().map(|n| (*n, row(other, shape, &shape.section(*n)))).collect();
+        Self { name: shape.name, rows, growth: GROWTH.map(|n| growth(other, shape, n)) }
+    }
+
     fn at(&self, n: usize) -> &Row {
         &self.rows.iter().find(|(size, _)| *size == n).expect("measured").1
     }
-
-    /// How much more time it takes than with half as many records.
-    fn growth(&self, n: usize, time: impl Fn(&Row) -> f64) -> f64 {
-        time(self.at(n)) / time(self.at(n / 2))
-    }
 }
 
-fn section_to_strip(other: &impl Other, title: &str, shapes: &[Shape], sizes: &[usize], shown: &[usize], only: &str) {
+fn section_to_strip(other: &impl Other, title: &str, shapes: &[Shape], sizes: &[usize], only: &str) {
     let shapes = shapes.iter().filter(|shape| shape.name.contains(only));
-    let measured: Vec<Measured> = shapes
-        .map(|shape| {
-            eprintln!("{}", shape.name);
-            let rows = sizes.iter().map(|n| (*n, row(other, shape, &shape.section(*n)))).collect();
-            Measured { name: shape.name, rows }
-        })
-        .collect();
-    let last = shown[shown.len() - 1];
-    let heads = |word: &str| shown.iter().map(|n| format!("{word}{}", thousands(*n))).collect::<Vec<_>>();
+    let measured: Vec<Measured> = shapes.map(|shape| Measured::of(other, shape, sizes)).collect();
+    let last = sizes[sizes.len() - 1];
+    let heads = |word: &str| sizes.iter().map(|n| format!("{word}{}", thousands(*n))).collect::<Vec<_>>();
 
     let head = [
         vec!["shape".into(), "answer".into()],
@@ -155,35 +149,59 @@ fn section_to_strip(other: &impl Other, title: &str, shapes: &[Shape], sizes: &[
     ];
     let rows = measured.iter().map(|shape| {
         let mut row = vec![shape.name.to_string(), shape.at(last).status.to_string()];
-        row.extend(shown.iter().map(|n| figure(shape.at(*n).a_key(|row| row.library))));
+        row.extend(sizes.iter().map(|n| figure(shape.at(*n).a_key(|row| row.library))));
         row.push(figure(shape.at(last).a_key(|row| row.exact)));
-        row.extend(shown.iter().map(|n| figure(shape.at(*n).a_key(|row| row.clip))));
+        row.extend(sizes.iter().map(|n| figure(shape.at(*n).a_key(|row| row.clip))));
         row.push(figure(shape.at(last).a_key(|row| row.writer)));
         row
     });
     table(title, &head.concat(), &rows.collect::<Vec<_>>());
 
-    let growth = GROWTH.map(|n| format!("to {}", thousands(n)));
-    let walk = GROWTH.map(|n| format!("walk to {}", thousands(n)));
+    let growth = |word: &str| GROWTH.map(|n| format!("{word}to {}", thousands(n))).to_vec();
     let head = [
         vec!["shape".into()],
         heads("R/L "),
         heads("W/L "),
-        growth.to_vec(),
-        walk.to_vec(),
+        growth(""),
+        growth("walk "),
+        growth("sum "),
         vec!["L/sum".into(), "L/by bytes".into()],
     ];
     let rows = measured.iter().map(|shape| {
         let mut row = vec![shape.name.to_string()];
-        row.extend(shown.iter().map(|n| figure(shape.at(*n).clip / shape.at(*n).library)));
-        row.extend(shown.iter().map(|n| figure(shape.at(*n).writer / shape.at(*n).library)));
-        row.extend(GROWTH.map(|n| figure(shape.growth(n, |row| row.library))));
-        row.extend(GROWTH.map(|n| figure(shape.growth(n, |row| row.walk))));
+        row.extend(sizes.iter().map(|n| figure(shape.at(*n).clip / shape.at(*n).library)));
+        row.extend(sizes.iter().map(|n| figure(shape.at(*n).writer / shape.at(*n).library)));
+        row.extend(shape.growth.iter().map(|growth| figure(growth.library)));
+        row.extend(shape.growth.iter().map(|growth| figure(growth.walk)));
+        row.extend(shape.growth.iter().map(|growth| figure(growth.sum)));
         row.push(figure(shape.at(last).library / shape.at(last).sum));
         row.push(figure(shape.at(last).library / shape.at(last).by_bytes));
         row
     });
     table(&format!("{title}: ratios"), &head.concat(), &rows.collect::<Vec<_>>());
+}
+
+/// How much more time each takes than with half as many records.
+struct Growth {
+    library: f64,
+    walk: f64,
+    sum: f64,
+}
+
+fn growth(other: &impl Other, shape: &Shape, n: usize) -> Growth {
+    let (half, whole) = (shape.section(n / 2), shape.section(n));
+    let (half_status, mut half_slices) = same(other, shape, &half, Output::AsSection);
+    let (whole_status, mut whole_slices) = same(other, shape, &whole, Output::AsSection);
+    let (half_links, whole_links) = (Links::of(shape.morphs, &half), Links::of(shape.morphs, &whole));
+    let ([half_library, library, half_walk, walk, half_sum, sum], _) = medians([
+        &mut || assert_eq!(other.strip(black_box(&half), 0, &mut half_slices), half_status),
+        &mut || assert_eq!(other.strip(black_box(&whole), 0, &mut whole_slices), whole_status),
+        &mut || half_links.walk(&half),
+        &mut || whole_links.walk(&whole),
+        &mut || sum(&half),
+        &mut || sum(&whole),
+    ]);
+    Growth { library: library / half_library, walk: walk / half_walk, sum: sum / half_sum }
 }
 
 /// As many tracks and additional records as the limits allow.
@@ -212,8 +230,6 @@ struct Row {
     writer: f64,
     sum: f64,
     by_bytes: f64,
-    /// One plain walk along the next links.
-    walk: f64,
 }
 
 impl Row {
@@ -226,17 +242,15 @@ fn row(other: &impl Other, shape: &Shape, section: &[u8]) -> Row {
     let (status, mut slices) = same(other, shape, section, Output::AsSection);
     let (_, mut least) = same(other, shape, section, Output::AsStrip);
     let work = |section: &[u8]| model::summary(black_box(section), 0).expect("read");
-    let links = Links::of(shape.morphs, section);
-    let ([library, exact, clip, writer, sum, by_bytes, walk], _) = medians([
+    let ([library, exact, clip, writer, sum, by_bytes], _) = medians([
         &mut || assert_eq!(other.strip(black_box(section), 0, &mut slices), status),
         &mut || assert_eq!(other.strip(black_box(section), 0, &mut least), status),
         &mut || drop(black_box(build_pmm_document_model_clip(&work(section)))),
         &mut || drop(black_box(clip::build(&work(section)).map(|clip| strip::bytes(&clip)))),
         &mut || sum(section),
         &mut || sum_by_bytes(section),
-        &mut || links.walk(section),
     ]);
-    Row { status, keys: Keys::of(shape, section).all(), library, exact, clip, writer, sum, by_bytes, walk }
+    Row { status, keys: Keys::of(shape, section).all(), library, exact, clip, writer, sum, by_bytes }
 }
 
 /// How long an output is lent.

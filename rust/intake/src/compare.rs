@@ -10,7 +10,7 @@ use crate::failure::{Failure, named};
 use crate::fields::{Form, fields, floats};
 use crate::input::{failed, open, read};
 use crate::json::Json;
-use crate::report::Report;
+use crate::report::{Report, counted};
 use crate::stored::{Key, Stored};
 
 pub fn compare(first: &OsStr, second: &OsStr) -> Report {
@@ -41,10 +41,6 @@ fn agree(strip: &Stored) -> Report {
     let keys =
         vec![("bones", Json::number(bones)), ("morphs", Json::number(morphs)), ("key_count", Json::number(keys))];
     Report { status: 0, result: "agree", keys, text, error: None }
-}
-
-fn counted(count: usize, what: &str) -> String {
-    format!("{count} {what}{}", if count == 1 { "" } else { "s" })
 }
 
 fn differ(difference: &Difference) -> Report {

@@ -14,12 +14,12 @@ pub const FILE_STATUS: u8 = 4;
 #[derive(Debug)]
 pub enum Failure {
     Usage(String),
-    /// The library's refusal; in a project also of which model, and the file's name.
+    /// The library's refusal, also in words; in a project also of which model, and the file's name.
     Refused {
         file: String,
         model: Option<usize>,
         refusal: Refusal,
-        hint: &'static str,
+        words: String,
     },
     File {
         file: String,
@@ -93,9 +93,9 @@ impl fmt::Display for Failure {
     fn fmt(&self, formatter: &mut fmt::Formatter<'_>) -> fmt::Result {
         match self {
             Self::Usage(words) => write!(formatter, "{words}; `intake --help` tells what is asked for"),
-            Self::Refused { file, model, refusal, hint } => {
+            Self::Refused { file, model, words, .. } => {
                 let model = model.map(|model| format!(", model {model}")).unwrap_or_default();
-                write!(formatter, "{}{model}: {refusal}{hint}", told(file))
+                write!(formatter, "{}{model}: {words}", told(file))
             }
             Self::File { file, error } => write!(formatter, "{}: {error}", told(file)),
             Self::Malformed { file, malformed } => write!(formatter, "{}: {malformed}", told(file)),

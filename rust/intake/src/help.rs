@@ -21,7 +21,8 @@ Exit statuses:
   1  the strips differ
   2  the arguments are not understood, or the strip would take the place of its section
   3  the library refused the section; the number is that of document 01
-  4  a file cannot be read or written, or the report cannot be printed
+  4  a file cannot be read or written, or the report cannot be printed; if that is because its reader has closed
+     the pipe, there is no message
   5  a strip is malformed
   6  a project, given without --model or --start; or not a PMMv2 project, or it has no model of that number
 

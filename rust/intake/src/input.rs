@@ -9,6 +9,7 @@ use limdroven::{MOST_BYTES, PmmDocumentModelSummary, Refusal, model_summary};
 use crate::failure::{Failure, named};
 use crate::options::{At, Section};
 use crate::project;
+use crate::report::counted;
 
 /// What is lent to the library for one section.
 #[derive(Debug)]
@@ -43,10 +44,10 @@ impl Lent {
 
     /// The front of a project can read as a section, whose strip would be that of none of its models.
     fn no_project(self) -> Result<Self, Failure> {
-        if !self.bytes.starts_with(project::SIGNATURE) {
+        let Some(project) = project::told(&self.bytes) else {
             return Ok(self);
-        }
-        let words = "this is a project: --model N takes its model N, --start 0 reads it as a section".into();
+        };
+        let words = format!("this is {project}, --start 0 reads it as a section");
         Err(Failure::Project { file: self.file, words })
     }
 
@@ -54,11 +55,27 @@ impl Lent {
         model_summary(&self.bytes, self.start).map_err(|refusal| self.refused(refusal))
     }
 
-    /// The refusal with its place in the file, and a hint where `--start` was given for a project.
+    /// The refusal with its place in the file.
     pub fn refused(&self, refusal: Refusal) -> Failure {
-        let unnamed_model = self.model.is_none() && self.bytes.starts_with(project::SIGNATURE);
-        let hint = if unnamed_model { " (this looks like a project: --model N takes its model N)" } else { "" };
-        Failure::Refused { file: self.file.clone(), model: self.model, refusal: refusal.moved(self.base), hint }
+        let refusal = refusal.moved(self.base);
+        Failure::Refused { file: self.file.clone(), model: self.model, refusal, words: self.words(refusal) }
+    }
+
+    /// With a hint where `--start` was given for a project.
+    fn words(&self, refusal: Refusal) -> String {
+        let (number, start, length) = (refusal.number(), self.start, self.bytes.len());
+        let words = match refusal {
+            // A file that is not read whole is refused with 16, so this length is the file's.
+            Refusal::TooShort { .. } if start > length => {
+                let whole = if self.file == "-" { "standard input" } else { "the file" };
+                let length = counted(length, "byte");
+                format!("refused {number}: the start {start} is past the end of {whole}, which has {length}")
+            }
+            _ => refusal.to_string(),
+        };
+        let project = project::told(&self.bytes).filter(|_| self.model.is_none());
+        let hint = project.map(|project| format!(" (this looks like {project})")).unwrap_or_default();
+        words + &hint
     }
 }
 

@@ -4,12 +4,12 @@
 
 use std::io::Read;
 
-use limdroven::{MOST_BYTES, Refusal};
+use limdroven::{MOST_BYTES, Refusal, model_summary};
 
 use crate::failure::Failure;
 use crate::input::{Lent, failed, read};
 
-pub const SIGNATURE: &[u8] = b"Polygon Movie maker ";
+const SIGNATURE: &[u8] = b"Polygon Movie maker ";
 const HEADER: usize = 55;
 
 /// The section of this model and what follows it, up to the most that the library takes.
@@ -31,7 +31,8 @@ pub fn section(input: &mut dyn Read, file: String, model: usize) -> Result<Lent,
     let mut lent = Lent { file, bytes: Vec::new(), start: 0, base: HEADER, model: Some(0) };
     loop {
         let ahead = fill(input, &mut lent)?;
-        let summary = lent.summary().map_err(|failure| if ahead.is_some() { cut(failure) } else { failure })?;
+        let refused = |refusal| lent.refused(if ahead.is_some() { cut(refusal) } else { refusal });
+        let summary = model_summary(&lent.bytes, lent.start).map_err(refused)?;
         if lent.model == Some(model) {
             return Ok(lent);
         }
@@ -40,6 +41,18 @@ pub fn section(input: &mut dyn Read, file: String, model: usize) -> Result<Lent,
         lent.base += summary.offset_end;
         lent.model = lent.model.map(|model| model + 1);
     }
+}
+
+/// Of a file that begins as a project does: what it is, and what `--model` does with it.
+pub fn told(front: &[u8]) -> Option<String> {
+    if !front.starts_with(SIGNATURE) {
+        return None;
+    }
+    Some(match version(front) {
+        Some(2) => "a project: --model N takes its model N".into(),
+        Some(version) => format!("a PMM project of version {version}, not 2: --model does not walk it"),
+        None => "a PMM project of a version other than 2: --model does not walk it".into(),
+    })
 }
 
 fn version(header: &[u8]) -> Option<u32> {
@@ -56,11 +69,9 @@ fn fill(input: &mut dyn Read, lent: &mut Lent) -> Result<Option<u8>, Failure> {
 }
 
 /// Where the file goes on behind the bytes lent, a section that they end in is longer than the library takes.
-fn cut(failure: Failure) -> Failure {
-    match failure {
-        Failure::Refused { file, model, refusal: Refusal::TooShort { .. }, hint } => {
-            Failure::Refused { file, model, refusal: Refusal::TooLong, hint }
-        }
+fn cut(refusal: Refusal) -> Refusal {
+    match refusal {
+        Refusal::TooShort { .. } => Refusal::TooLong,
         other => other,
     }
 }

@@ -1,7 +1,7 @@
 //! What is told of a run, as text or as JSON.
 
 use std::ffi::OsStr;
-use std::io::{self, Write};
+use std::io::{self, ErrorKind, Write};
 
 use crate::failure::{FILE_STATUS, Failure};
 use crate::json::Json;
@@ -73,9 +73,16 @@ pub fn print(stream: Stream, text: &str, status: u8) -> u8 {
         Stream::Error => io::stderr().write_all(text.as_bytes()),
     };
     if let Err(error) = written {
-        // Nothing is left to tell it to if this fails too.
-        let _ = writeln!(io::stderr(), "intake: what is printed cannot be written: {error}");
+        // A reader that has closed the pipe wants no more of it.
+        if error.kind() != ErrorKind::BrokenPipe {
+            // Nothing is left to tell it to if this fails too.
+            let _ = writeln!(io::stderr(), "intake: what is printed cannot be written: {error}");
+        }
         return FILE_STATUS;
     }
     status
+}
+
+pub fn counted(count: usize, what: &str) -> String {
+    format!("{count} {what}{}", if count == 1 { "" } else { "s" })
 }

@@ -10,6 +10,12 @@ fn one_bone() -> Vec<u8> {
     section(bones(&[[0; 4]], &[]), morphs(&[], &[]))
 }
 
+/// One bone track of so many keys.
+pub fn one_track(keys: i32) -> Vec<u8> {
+    let links: Vec<[i32; 4]> = (1..keys).map(|n| [n, n, n - 1, (n + 1) % keys]).collect();
+    section(bones(&[[0, 0, 0, 1]], &links), morphs(&[], &[]))
+}
+
 fn quiet(text: &str) -> Ran {
     Ran { status: 0, output: text.into(), error: String::new() }
 }
@@ -38,8 +44,7 @@ fn at_a_start() {
 /// More bytes than the listing program of document 01 takes, and as many as the library does.
 #[test]
 fn large_sections() {
-    let links: Vec<[i32; 4]> = (1..2000).map(|n| [n, n, n - 1, (n + 1) % 2000]).collect();
-    let section = section(bones(&[[0, 0, 0, 1]], &links), morphs(&[], &[]));
+    let section = one_track(2000);
     assert!(section.len() > 65_536);
     let keys: String = (0..2000).map(|frame| format!("bone 0 {frame} 0\n")).collect();
     let listing = format!("model 1 0 {}\n{keys}keys 2000 loose 0\n", section.len());
@@ -74,9 +79,36 @@ fn refusals() {
             .into(),
     };
     assert_eq!(intake_with(&["list", "-"], &cycle), refused);
-    let past = intake_with(&["list", "-", "--start", "18446744073709551615"], &cycle);
-    assert_eq!((past.status, past.text()), (3, "refused 1\n"));
-    assert!(past.error.contains("offset 18446744073709551615"), "{}", past.error);
+}
+
+/// Told of the start and the file's length; a start at the end itself is told as any value that is not whole.
+#[test]
+fn start_past_the_end() {
+    let past = |start: &str, bytes: &[u8], length: &str| {
+        let path = file("list start past the end", bytes);
+        let words = |whole| format!("refused 1: the start {start} is past the end of {whole}, which has {length}");
+        let refused = |error| Ran { status: 3, output: b"refused 1\n".to_vec(), error };
+        let error = format!("intake: {path}: {}\n", words("the file"));
+        assert_eq!(intake(&["list", &path, "--start", start]), refused(error.clone()));
+        assert_eq!(intake(&["strip", &path, "-o", "-", "--start", start]).error, error);
+        let error = format!("intake: standard input: {}\n", words("standard input"));
+        assert_eq!(intake_with(&["list", "-", "--start", start], bytes), refused(error));
+        let told = json::line(intake(&["list", &path, "--start", start, "--json"]).text());
+        assert_eq!(told.text("words"), format!("{path}: {}", words("the file")));
+        assert_eq!((told.number("number"), told.get("values").number("offset").to_string()), (1, start.into()));
+    };
+    past("431", &one_bone(), "430 bytes");
+    past("18446744073709551615", &one_bone(), "430 bytes");
+    past("2", &[0], "1 byte");
+    past("1", &[], "0 bytes");
+    let mut most = vec![0; 16_777_215];
+    past("16777216", &most, "16777215 bytes");
+    most.push(0);
+    let ran = intake_with(&["list", "-", "--start", "16777217"], &most);
+    assert_eq!(ran.error, "intake: standard input: refused 16: more than 16777215 bytes\n");
+    let ran = intake_with(&["list", "-", "--start", "430"], &one_bone());
+    let words = "refused 1: the bytes end before the value at offset 430 is whole";
+    assert_eq!(ran.error, format!("intake: standard input: {words}\n"));
 }
 
 /// The same listing in both forms.

@@ -8,6 +8,7 @@ mod list;
 mod malformed;
 #[cfg(unix)]
 mod output;
+mod printed;
 mod project;
 #[path = "../../../limdroven/tests/calls/sections.rs"]
 mod sections;

@@ -2,7 +2,7 @@
 
 use std::fs;
 
-use crate::command::{Ran, file, intake, intake_with, sample};
+use crate::command::{Ran, file, intake, intake_with, place, sample};
 use crate::json;
 use crate::sections::{bones, morphs, section};
 
@@ -131,7 +131,7 @@ fn versions() {
 #[test]
 fn without_a_model() {
     let words = "this is a project: --model N takes its model N, --start 0 reads it as a section";
-    for project in [two_models(), b"Polygon Movie maker ".to_vec(), front_reads()] {
+    for project in [two_models(), front_reads()] {
         assert_eq!(intake_with(&["list", "-"], &project), failed(6, &format!("standard input: {words}")));
         let told = json::line(intake_with(&["list", "-", "--json"], &project).text());
         assert_eq!((told.keys(), told.text("result")), (vec!["result", "status", "file", "words"], "project"));
@@ -141,6 +141,29 @@ fn without_a_model() {
     assert_eq!(fs::read(&strip).expect("read"), b"as it was");
     // One byte of the signature less.
     assert_eq!(intake_with(&["list", "-"], b"Polygon Movie maker").status, 3);
+}
+
+/// Of a version that `--model` does not walk.
+#[test]
+fn other_versions() {
+    let told = |project: &[u8], version: &str| {
+        let what = format!("a PMM project of {version}: --model does not walk it");
+        let words = format!("standard input: this is {what}, --start 0 reads it as a section");
+        assert_eq!(intake_with(&["list", "-"], project), failed(6, &words));
+        let told = json::line(intake_with(&["strip", "-", "-o", &place("project other"), "--json"], project).text());
+        assert_eq!((told.keys(), told.text("result")), (vec!["result", "status", "file", "words"], "project"));
+        assert_eq!(told.text("words"), words);
+        let ran = intake_with(&["list", "-", "--start", "0"], project);
+        assert!(ran.status == 3 && ran.error.ends_with(&format!(" (this looks like {what})\n")), "{}", ran.error);
+    };
+    for (version, number) in [("0001", 1), ("1", 1), ("0003", 3), ("+0", 0)] {
+        told(&project(version, &[one_bone(7)]), &format!("version {number}, not 2"));
+    }
+    for version in ["", "2x", "-2", "4294967296"] {
+        told(&project(version, &[one_bone(7)]), "a version other than 2");
+    }
+    told(b"Polygon Movie maker ", "a version other than 2");
+    told(b"Polygon Movie maker 0001", "version 1, not 2");
 }
 
 /// With `--start 0` every section is taken, also one that begins as a project does.

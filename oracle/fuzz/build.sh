@@ -22,12 +22,15 @@ for name in exports strip_export; do
     "$kit_clang" $common -c "$folder/$name.ll" -o "$folder/$name.o" -O2 -fsanitize=address \
         -fsanitize-coverage=inline-8bit-counters,pc-table,trace-cmp
 done
-sources="reading.c building.c lend.c harness.c"
+sources="reading.c building.c lend.c readers.c strips.c harness.c"
+objects=""
 # The reference and the harness are address checked, but do not count as coverage.
 for source in $sources; do
     clang -std=c11 -g -O2 -Wall -Wextra -ffp-contract=off -DHEAP -fsanitize=address -c "$source" -o "$folder/$source.o"
+    objects="$objects $source.o"
 done
-(cd "$folder" && clang -fsanitize=fuzzer,address reading.c.o building.c.o lend.c.o harness.c.o exports.o strip_export.o -o fuzz)
+# shellcheck disable=SC2086
+(cd "$folder" && clang -fsanitize=fuzzer,address $objects exports.o strip_export.o -o fuzz)
 archives=../../target/staticlib
 for name in replay heap; do
     [ $name = heap ] && how=-DHEAP || how=

@@ -13,8 +13,7 @@ void *lend(size_t size, int front) {
     return size == 0 ? NULL : malloc(size);
 }
 
-void give_back(void *slice, size_t size) {
-    (void)size;
+void give_back(void *slice) {
     free(slice);
 }
 
@@ -44,8 +43,7 @@ void *lend(size_t size, int front) {
     abort();
 }
 
-void give_back(void *slice, size_t size) {
-    (void)size;
+void give_back(void *slice) {
     for (int i = 0; i < PLACES; i++) {
         uint8_t *at = slice;
         if (rooms[i] != NULL && at >= rooms[i] && at < rooms[i] + ROOM) taken[i] = 0;

@@ -7,6 +7,6 @@
 /* Exactly `size` bytes. Built with address checking: from the heap, where the checks know its ends. Else: against a page that cannot be
    touched, behind the slice or (`front`) before it. No bytes are a null pointer, which may not be followed. */
 void *lend(size_t size, int front);
-void give_back(void *slice, size_t size);
+void give_back(void *slice);
 
 #endif

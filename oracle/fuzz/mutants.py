@@ -49,7 +49,7 @@ def main():
         texts[name] = text
         places += [(name, at) for at, line in enumerate(text) if changed(line)]
     random.Random(seed).shuffle(places)
-    sources = [str(here / name) for name in ["reading.c", "building.c", "lend.c", "harness.c", "replay.c"]]
+    sources = [str(here / name) for name in ["reading.c", "building.c", "lend.c", "readers.c", "strips.c", "harness.c", "replay.c"]]
     noticed = taken = 0
     for name, at in places:
         if taken == changes:

@@ -8,11 +8,13 @@ use mathlib.Core.List.{List, [], _∷_}
 use mathlib.Core.Path.{_≡_, refl, sym, _∙_, subst}
 use lib.Dec.{leb, ltb}
 use lib.ListN.{length}
-use Rattle.layout.specs.Walk.{fine, refused, refusal, refusedAt, item, block, items, times, count, string, bool, u32, u8, unlimited}
+use Rattle.layout.specs.Walk.{fine, refused, refusal, refusedAt, item, block, items, times, count, string, fixedString, bool, u32, u8, unlimited}
 use Rattle.layout.specs.Records.{size, initial, additional, bone, morph, model, boneState, morphState, constraintState, parentState}
-use Rattle.layout.proofs.Inversion.{came, counted, same-value, item-fits}
+use Rattle.layout.proofs.Inversion.{Reads, came, counted, same-value, item-fits}
+use Rattle.layout.proofs.Steps.{read-as}
 use Rattle.section.specs.Limits.{Limits}
 use Rattle.section.specs.Model.{opening, names, entries, counts, view, scroll, front, keyframes, keyframeBlocks, states, ending, modelParts, modelSection}
+use Rattle.section.specs.declared.opening.Opening.{Opening}
 use Rattle.section.specs.declared.names.Names.{Names}
 use Rattle.section.specs.declared.names.Counts.{Counts}
 use Rattle.section.specs.declared.keyframes.Keyframes.{Keyframes}
@@ -98,6 +100,12 @@ pub record StateLists (c : Counts) (at next : ℕ) (v : States) : Type 0 where
   pub parents : v .parents ≡ v .constraints + c .constraints * size constraintState
   pub ends : next ≡ v .parents + c .parents * size parentState
 
+-- The name, the English name and the path.
+pub record TextsRead (s : List ℕ) (o : Opening) : Type 0 where
+  pub name : Reads (string s (o .«name_offset»))
+  pub englishName : Reads (string s (o .«english_name_offset»))
+  pub path : Reads (fixedString 256 s (o .«path_offset»))
+
 -- A count and its names.
 pub record NamesRead (limit : ℕ) (s : List ℕ) (n : Names) : Type 0 where
   pub end : ℕ
@@ -108,13 +116,14 @@ pub record NamesRead (limit : ℕ) (s : List ℕ) (n : Names) : Type 0 where
 abbrev pub modelItems : Counts → List ℕ
 modelItems c = model (c .constraints) (c .parents)
 
--- The names, the blocks of bones, morphs and model records, and the states behind them.
+-- The texts, the names, the blocks of bones, morphs and model records, and the states behind them.
 pub record Blocks (limits : Limits) (s : List ℕ) (m : Model) : Type 0 where
   pub at : ℕ
   pub between : ℕ
   pub end : ℕ
   pub behind : ℕ
   pub last : ℕ
+  pub texts : TextsRead s (m .front .opening)
   pub boneNames : NamesRead (limits .tracks) s (m .front .counts .bones)
   pub morphNames : NamesRead (limits .tracks) s (m .front .counts .morphs)
   pub bones : Block (m .front .counts .bones .count) (size (initial bone)) (size (additional bone)) (limits .additional) at between (m .keyframes .bones)
@@ -134,6 +143,21 @@ names-read limit s at n next e =
     subst (λ (n : Names). NamesRead limit s n) is
     (record { end = t .at; read = t .first; within = counted limit s at (c .value) (c .at) (c .first) .within })
 
+texts-read : (s : List ℕ) (at : ℕ) (o : Opening) (next : ℕ) → opening s at ≡ fine o next → TextsRead s o
+unfolding opening
+texts-read s at o next e =
+    let index = came (u8 s at) _ o next e in
+    let name = came (string s (index .at)) _ o next (index .rest) in
+    let english = came (string s (name .at)) _ o next (name .rest) in
+    let path = came (block 256 s (english .at)) _ o next (english .rest) in
+    let ignored = came (u8 s (path .at)) _ o next (path .rest) in
+    subst (λ (o : Opening). TextsRead s o) (same-value (ignored .rest))
+    (record {
+      name = record { value = name .value; to = name .at; is = name .first };
+      englishName = record { value = english .value; to = english .at; is = english .first };
+      path = record { value = _; to = path .at; is = read-as 256 _ s (english .at) (path .at) (path .first) };
+    })
+
 -- The names of bones and of morphs.
 abbrev BothRead : Limits → List ℕ → Counts → Type 0
 BothRead limits s c = NamesRead (limits .tracks) s (c .bones) × NamesRead (limits .tracks) s (c .morphs)
@@ -150,7 +174,7 @@ counts-read limits s at c next e =
     subst (λ (c : Counts). BothRead limits s c) is
     (names-read (limits .tracks) s at (bones .value) (bones .at) (bones .first), names-read (limits .tracks) s (bones .at) (morphs .value) (morphs .at) (morphs .first))
 
-front-read : (limits : Limits) (s : List ℕ) (at : ℕ) (f : Front) (next : ℕ) → front limits s at ≡ fine f next → BothRead limits s (f .counts)
+front-read : (limits : Limits) (s : List ℕ) (at : ℕ) (f : Front) (next : ℕ) → front limits s at ≡ fine f next → TextsRead s (f .opening) × BothRead limits s (f .counts)
 unfolding front
 front-read limits s at f next e =
     let o = came (opening s at) _ f next e in
@@ -159,7 +183,8 @@ front-read limits s at f next e =
     let r = came (scroll s (v .at)) _ f next (v .rest) in
     let made : Front = record { opening = o .value; counts = c .value; view = v .value; scroll = r .value } in
     let is : made ≡ f = same-value (r .rest) in
-    subst (λ (f : Front). BothRead limits s (f .counts)) is (counts-read limits s (o .at) (c .value) (c .at) (c .first))
+    subst (λ (f : Front). TextsRead s (f .opening) × BothRead limits s (f .counts)) is
+    (texts-read s at (o .value) (o .at) (o .first), counts-read limits s (o .at) (c .value) (c .at) (c .first))
 
 -- The records of a model follow those of the morphs.
 record ThreeBlocks (limits : Limits) (c : Counts) (at next : ℕ) (k : KeyframeBlocks) : Type 0 where
@@ -226,7 +251,7 @@ blocks limits s start m end e = go (ltb (limits .length) (length s)) e
         let d = came (ending s (t .at)) _ m end (t .rest) in
         let made : Model = record { front = f .value; keyframes = k .value; states = t .value; ending = d .value } in
         let is : made ≡ m = same-value (d .rest) in
-        let both = front-read limits s start (f .value) (f .at) (f .first) in
+        let read = front-read limits s start (f .value) (f .at) (f .first) in
         let three = three-blocks limits (f .value .counts) s (f .at) (k .value) (k .at) (k .first) in
         let lists = state-lists (f .value .counts) s (k .at) (t .value) (t .at) (t .first) in
         let whole = ending-within s (t .at) (d .value) (d .at) (d .first) in
@@ -237,8 +262,9 @@ blocks limits s start m end e = go (ltb (limits .length) (length s)) e
           end = three .end;
           behind = k .at;
           last = t .at;
-          boneNames = both .0;
-          morphNames = both .1;
+          texts = read .0;
+          boneNames = read .1 .0;
+          morphNames = read .1 .1;
           bones = three .bones;
           morphs = three .morphs;
           models = three .models;

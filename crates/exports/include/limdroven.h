@@ -22,8 +22,7 @@
    as 0x7fc00000, the index of an initial record, which has none, as 2^64 - 1.
 
    Calls that answer bytes. They return the length of the part and write its bytes into `output` from place 0 on as far as
-   it reaches; later places stay as they were. Where the call that answers numbers for the same arguments refuses, the part is empty;
-   limdroven_bone_interpolation alone then answers 16 bytes, all 0.
+   it reaches; later places stay as they were. Where the call that answers numbers for the same arguments refuses, the part is empty.
 */
 #ifndef LIMDROVEN_H
 #define LIMDROVEN_H
@@ -118,8 +117,7 @@ size_t limdroven_light_payload(const uint8_t *section, size_t section_len, size_
 /* A camera record's interpolation: its 24 bytes. */
 size_t limdroven_camera_interpolation(const uint8_t *section, size_t section_len, size_t start, bool include_index, size_t number, uint8_t *output, size_t output_len);
 
-/* A bone record's interpolation, 16 bytes: the curves of x, y, z and rotation, four bytes each. 16 zero bytes where
-   limdroven_bone_keyframe refuses. */
+/* A bone record's interpolation, 16 bytes: the curves of x, y, z and rotation, four bytes each. */
 size_t limdroven_bone_interpolation(const uint8_t *section, size_t section_len, size_t start, bool include_index, size_t number, uint8_t *output, size_t output_len);
 
 #ifdef __cplusplus

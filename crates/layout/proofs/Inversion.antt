@@ -20,6 +20,12 @@ pub came : {A B : Type 0} (w : Walk A) (f : A → ℕ → Walk B) (b : B) (next 
 came (fine a at) f b next e = record { value = a; at = at; first = refl; rest = e }
 came (refused why) f b next e = absurd (let z : _≡_ {A = ℕ} 0 1 = cc in omega arith)
 
+-- A walk that goes well.
+pub record Reads {A : Type 0} (w : Walk A) : Type 0 where
+  pub value : A
+  pub to : ℕ
+  pub is : w ≡ fine value to
+
 pub same-value : {A : Type 0} {a b : A} {n m : ℕ} → fine a n ≡ fine b m → a ≡ b
 same-value e = cc
 

@@ -3,6 +3,7 @@
 use Prim.Native.Nat.{ℕ, zero, suc, _+_, _*_, _^_, _-_}
 use mathlib.Core.List.{List, [], _∷_}
 use mathlib.Core.Bool.{Bool, not, cond}
+use mathlib.Core.Path.{_≡_}
 use lib.ListN.{length, getD, take, drop}
 use lib.Dec.{leb, ltb, eqb}
 use lib.IntN.{ℤ, pos}
@@ -49,6 +50,11 @@ here s at = fine at at
 pub data Answer (A : Type 0) : Type 0 where
   answered : A → Answer A
   declined : Refusal → Answer A
+
+-- An answer that is no refusal.
+pub record Answers {A : Type 0} (a : Answer A) : Type 0 where
+  pub value : A
+  pub is : a ≡ answered value
 
 abbrev pub answer : {A : Type 0} → Walk A → Answer A
 answer (fine a next) = answered a

@@ -5,7 +5,7 @@ use Rattle.layout.specs.Walk.{Answer, answered, declined}
 use Rattle.records.specs.Curves.{curvesAt, noCurves}
 use Rattle.records.specs.declared.bone.PmmDocumentBoneKeyframeSummary.{PmmDocumentBoneKeyframeSummary}
 
--- All 0 exactly where the record's own call refuses.
+-- All 0 where the record's own call refuses.
 abbrev pub curvesOr : Answer PmmDocumentBoneKeyframeSummary → ListOf ℕ → ListOf (ListOf ℕ)
 curvesOr (answered b) s = curvesAt s (b .span .«payload_offset»)
 curvesOr (declined why) s = noCurves

@@ -7,13 +7,13 @@ use mathlib.Core.List.{List, []}
 use mathlib.Core.Path.{_≡_, refl, sym, ap, _∙_}
 use borrow.Author.Tests.{lt-ltb, le-ltb}
 use lib.ListN.{length}
-use Rattle.layout.specs.Walk.{Refusal, refusal, Walk, fine, refused, Reader, after, answered, declined, answer, entryOf}
+use Rattle.layout.specs.Walk.{Refusal, refusal, Walk, fine, refused, Reader, after, answered, declined, answer, Answers, entryOf}
 use Rattle.layout.specs.Records.{size}
 use Rattle.layout.proofs.Blocks.{items-whole, times-whole}
 use Rattle.layout.proofs.Inversion.{came, same-value}
-use Rattle.layout.proofs.Walks.{Read, Walks}
+use Rattle.layout.proofs.Walks.{Read, Walks, walks-read}
 use Rattle.lists.specs.Lists.{Listed, entryAt}
-use Rattle.shown.specs.Told.{Answers, Told}
+use Rattle.shown.specs.Told.{Told}
 
 abbrev pub Stands : List ℕ → Listed → Type 0
 Stands s e = e .offset + e .count * size (e .widths) ≤ length s
@@ -31,7 +31,7 @@ module _ (s : List ℕ) (e : Listed) (stands : Stands s e) (k : ℕ) (there : k 
   pub entry-whole : {A : Type 0} (r : Reader A) → Walks r (e .widths) → Read (r s (placeOf e k)) (placeOf e k + size (e .widths))
   entry-whole r walks =
       let more = mul-le-mul-right {m = suc k} {n = e .count} (size (e .widths)) (omega (arith, there)) in
-      walks s (placeOf e k) _ (items-whole (e .widths) s (placeOf e k) (omega (arith, more, suc-mul k (size (e .widths)), stands)))
+      walks-read r (e .widths) walks s (placeOf e k) _ (items-whole (e .widths) s (placeOf e k) (omega (arith, more, suc-mul k (size (e .widths)), stands)))
 
 pub entry-past : (s : List ℕ) (e : Listed) (k : ℕ) → e .count ≤ k → entryAt e k s ≡ refused (refusal 19 [])
 unfolding entryAt

@@ -6,14 +6,14 @@ use mathlib.Core.Path.{_≡_, refl, ap, subst, _∙_}
 use borrow.Author.Tests.{lt-ltb, le-ltb}
 use Rattle.layout.specs.Walk.{Walk, fine, Reader, after, bool, u32, times, items}
 use Rattle.layout.specs.Records.{constraintState, pair}
-use Rattle.layout.proofs.Inversion.{came, same-value}
-use Rattle.layout.proofs.Walks.{Walks, walks-give, walks-then, walks-bool, walks-u32}
+use Rattle.layout.proofs.Inversion.{Reads, came, same-value}
+use Rattle.layout.proofs.Walks.{Walks, walks-read, walks-give, walks-then, walks-bool, walks-u32}
 use Rattle.records.specs.Base.{baseBits}
 use Rattle.records.specs.Keyframes.{modelBits}
 use Rattle.records.specs.declared.model.ModelBits.{ModelBits}
 use Rattle.lists.specs.Lists.{listed, entryAt}
 use Rattle.lists.specs.ModelLists.{flagBits, pairBits, twoBits}
-use Rattle.shown.proofs.Whole.{Reads, ByNumber, behind}
+use Rattle.shown.proofs.Whole.{ByNumber, behind}
 
 two-walks : Walks twoBits pair
 two-walks = walks-then u32 _ (4 ∷ []) (4 ∷ []) walks-u32 (λ a. walks-then u32 _ (4 ∷ []) [] walks-u32 (λ b. walks-give _))
@@ -46,7 +46,7 @@ module _ {A : Type 0} (r : Reader A) (widths : ListOf ℕ) (walks : Walks r widt
   entry-read there =
       let b = behind (items widths) count k s offset end there was in
       let c = came (times k (items widths) s offset) _ _ _ (b .is) in
-      let w = walks s (c .at) (b .to) (c .rest) in
+      let w = walks-read r widths walks s (c .at) (b .to) (c .rest) in
       let at : entryAt (listed count offset widths) k s ≡ times k (items widths) s offset = rw (lt-ltb k count there) refl in
       record { value = w .value; to = b .to; is = ap (λ (w : Walk (Unit {0})). after w (λ u p. r s p)) (at ∙ c .first) ∙ w .is }
 

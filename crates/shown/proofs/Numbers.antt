@@ -5,7 +5,7 @@ use mathlib.Core.List.{List as ListOf, []}
 use mathlib.Core.Path.{_≡_, refl, subst}
 use native.Mathlib.Omega.{arith}
 use borrow.Author.Tests.{lt-ltb, le-ltb}
-use Rattle.layout.specs.Walk.{Walk, fine, refused, refusal, Reader, Answer, answered, declined, answer, after, Part, entryOf}
+use Rattle.layout.specs.Walk.{Refusal, Walk, fine, refused, Reader, Answer, answered, declined, answer, after, Part, entryOf}
 use Rattle.layout.proofs.Walks.{Walks, walks-bool, walks-u32}
 use Rattle.records.proofs.Table.{bones-walk, morphs-walk, models-walk, bone-states-walk, u32x4-walks}
 use Rattle.records.specs.Keyframes.{modelBits}
@@ -17,11 +17,13 @@ use Rattle.section.specs.declared.model.Model.{Model}
 use Rattle.section.specs.declared.names.Names.{Names}
 use Rattle.section.specs.declared.summary.PmmDocumentModelSummary.{PmmDocumentModelSummary}
 use Rattle.lists.specs.Lists.{entriesOf, locate, nth}
+use Rattle.lists.specs.Keyframes.{boneList, morphList, modelList}
+use Rattle.strip.specs.Call.{stripCall}
 use Rattle.lists.specs.Texts.{nameAt, textAt, textOf}
 use Rattle.lists.specs.declared.lists.List.{List}
 use Rattle.lists.specs.declared.texts.Text.{Text}
 use Rattle.clip.proofs.Facts.{NamesRead, Blocks, blocks}
-use Rattle.shown.specs.Told.{Answers, Told, PartsTold, AllTold}
+use Rattle.shown.specs.Told.{Told, PartsTold, AllTold, AllDeclined}
 use Rattle.shown.proofs.Entries.{Finds, entry-whole, answered-by, declined-by, declined-found, found-there, found-past, entries-told}
 use Rattle.shown.proofs.Whole.{ByNumber, list-stands, behind}
 use Rattle.shown.proofs.ModelParts.{flag-told, pair-told}
@@ -82,6 +84,9 @@ module _ (limits : Limits) (s : ListOf ℕ) (start : ℕ) (m : Model) (end : ℕ
         flags = parts-told List.Models true (m .front .counts .constraints) _ _ (models-walk c p .1) (flag-told true c p s);
         initialPairs = parts-told List.InitialModels false (m .front .counts .parents) _ _ (models-walk c p .0) (pair-told false c p s);
         pairs = parts-told List.Models true (m .front .counts .parents) _ _ (models-walk c p .1) (pair-told true c p s);
+        name = let r = stands .texts .name in record { value = r .value; is = rw (reads, r .is) refl };
+        englishName = let r = stands .texts .englishName in record { value = r .value; is = rw (reads, r .is) refl };
+        path = let r = stands .texts .path in record { value = r .value; is = rw (reads, r .is) refl };
         boneNames = name-told (m .front .counts .bones) (stands .boneNames) _ (λ k. rw reads refl);
         morphNames = name-told (m .front .counts .morphs) (stands .morphNames) _ (λ k. rw reads refl);
       }
@@ -93,3 +98,32 @@ all-told limits s start x e = go (modelSection limits s start) refl e
     go : (w : Walk Model) → modelSection limits s start ≡ w → answer (after w (λ m end. fine (summaryOf start m end) end)) ≡ answered x → AllTold limits s start x
     go (fine m end) reads e = let is : summaryOf start m end ≡ x = cc in subst (AllTold limits s start) is (told limits s start m end reads)
     go (refused why) reads e = absurd (let z : _≡_ {A = ℕ} 0 1 = cc in omega arith)
+
+module _ (limits : Limits) (s : ListOf ℕ) (start : ℕ) (why : Refusal) (is : modelSection limits s start ≡ refused why) where
+  list-declined : {A B : Type 0} (list : List) (k : ℕ) (bits : Model → Reader A) (summary : Model → ℕ → A → ℕ → B) → nth limits list k bits summary s start ≡ declined why
+  unfolding locate
+  list-declined list k bits summary = declined-found (locate limits list k s start) bits summary s why (rw is refl)
+
+  refused-told : AllDeclined limits s start why
+  unfolding textOf stripCall
+  refused-told = record {
+    bones = λ includeIndex k. list-declined (boneList includeIndex) k _ _;
+    morphs = λ includeIndex k. list-declined (morphList includeIndex) k _ _;
+    models = λ includeIndex k. list-declined (modelList includeIndex) k _ _;
+    boneStates = λ k. list-declined List.BoneStates k _ _;
+    morphStates = λ k. list-declined List.MorphStates k _ _;
+    constraintStates = λ k. list-declined List.ConstraintStates k _ _;
+    parentStates = λ k. list-declined List.OutsideParentStates k _ _;
+    texts = λ text. rw is refl;
+    flags = λ includeIndex n k. list-declined (modelList includeIndex) n _ _;
+    pairs = λ includeIndex n k. list-declined (modelList includeIndex) n _ _;
+    strip = λ width first second output. rw is refl;
+  }
+
+pub all-declined : (limits : Limits) (s : ListOf ℕ) (start : ℕ) (why : Refusal) → modelSummary limits s start ≡ declined why → AllDeclined limits s start why
+unfolding modelSummary
+all-declined limits s start why e = go (modelSection limits s start) refl e
+  where
+    go : (w : Walk Model) → modelSection limits s start ≡ w → answer (after w (λ m end. fine (summaryOf start m end) end)) ≡ declined why → AllDeclined limits s start why
+    go (fine m end) is e = absurd (let z : _≡_ {A = ℕ} 0 1 = cc in omega arith)
+    go (refused other) is e = let same : other ≡ why = cc in subst (AllDeclined limits s start) same (refused-told limits s start other is)

@@ -1,16 +1,18 @@
--- Camera and light records: the numbers below the summary's counts are answered, and all others are 19 (specs/Told). Assumes nothing.
-use Prim.Native.Nat.{ℕ, _+_, _≤_}
+-- Camera and light records: the numbers below the summary's counts are answered, and all others are 19; where the summary is refused, so are
+-- they (specs/Told). Assumes nothing.
+use Prim.Native.Nat.{ℕ, _+_, _<_, _≤_}
 use native.Mathlib.Omega.{arith}
 use mathlib.Core.Bool.{Bool, true, false, cond}
 use mathlib.Core.List.{List, []}
 use mathlib.Core.Path.{_≡_, refl, subst}
+use borrow.Author.Tests.{lt-ltb}
 use lib.Dec.{ltb}
 use lib.ListN.{length}
-use Rattle.layout.specs.Walk.{Walk, fine, refused, refusal, Reader, after, block, unlimited, answered, answer, entryOf}
+use Rattle.layout.specs.Walk.{Refusal, Walk, fine, refused, refusal, Reader, after, block, unlimited, answered, declined, answer, entryOf}
 use Rattle.layout.specs.Records.{size, initial, additional}
 use Rattle.layout.proofs.Inversion.{came, same-value, item-fits}
 use Rattle.layout.proofs.Walks.{Walks}
-use Rattle.section.specs.Limits.{Limits}
+use Rattle.section.specs.Limits.{Limits, edition1}
 use Rattle.section.specs.Model.{keyframes}
 use Rattle.clip.proofs.Facts.{Block, block-is}
 use Rattle.tracks.specs.Track.{itemsOf, stateOf, trackParts, trackSection, trackOf, trackSummary, trackEntries, locate}
@@ -20,8 +22,8 @@ use Rattle.tracks.specs.declared.track.Kind.{Kind}
 use Rattle.tracks.specs.declared.track.Track.{Track}
 use Rattle.tracks.specs.declared.track.PmmDocumentTrackSummary.{PmmDocumentTrackSummary}
 use Rattle.tracks.proofs.Table.{cameras-walk, lights-walk}
-use Rattle.shown.specs.Told.{Told, TrackTold}
-use Rattle.shown.proofs.Entries.{Stands, entries-told}
+use Rattle.shown.specs.Told.{Told, TrackTold, TrackDeclined}
+use Rattle.shown.proofs.Entries.{Stands, declined-found, entries-told}
 use Rattle.shown.proofs.Whole.{block-stands}
 
 -- The records of a section that was read stand in the lent bytes.
@@ -79,3 +81,30 @@ light-told limits s start x =
       initial = records-told limits Kind.Light s start t end reads false _ _ (lights-walk .0);
       additional = records-told limits Kind.Light s start t end reads true _ _ (lights-walk .1);
     })
+
+-- A section that is not read.
+module _ (limits : Limits) (kind : Kind) (s : List ℕ) (start : ℕ) (why : Refusal) (e : trackSummary limits kind s start ≡ declined why) where
+  not-read : trackSection limits kind s start ≡ refused why
+  unfolding trackSummary
+  not-read = go (trackSection limits kind s start) e
+    where
+      go : (w : Walk Track) → answer (after w (λ t end. fine (trackOf start t end) end)) ≡ declined why → w ≡ refused why
+      go (fine t end) e = absurd (let z : _≡_ {A = ℕ} 0 1 = cc in omega arith)
+      go (refused other) e = cc
+
+  not-found : (includeIndex : Bool) (k : ℕ) → locate limits kind includeIndex k s start ≡ refused why
+  unfolding locate
+  not-found includeIndex k = rw not-read refl
+
+pub camera-declined : (limits : Limits) (s : List ℕ) (start : ℕ) (why : Refusal) → trackSummary limits Kind.Camera s start ≡ declined why → TrackDeclined why (λ includeIndex k. cameraKeyframe limits includeIndex k s start)
+camera-declined limits s start why e =
+    record { every = λ includeIndex k. declined-found _ _ _ s why (not-found limits Kind.Camera s start why e includeIndex k) }
+
+pub light-declined : (limits : Limits) (s : List ℕ) (start : ℕ) (why : Refusal) → trackSummary limits Kind.Light s start ≡ declined why → TrackDeclined why (λ includeIndex k. lightKeyframe limits includeIndex k s start)
+light-declined limits s start why e =
+    record { every = λ includeIndex k. declined-found _ _ _ s why (not-found limits Kind.Light s start why e includeIndex k) }
+
+-- Refusal 16, which no program of the tests can be lent enough bytes for.
+pub track-too-long : (kind : Kind) (s : List ℕ) (start : ℕ) → 16777215 < length s → trackSummary edition1 kind s start ≡ declined (refusal 16 [])
+unfolding trackSummary trackSection
+track-too-long kind s start long = rw (lt-ltb 16777215 (length s) long)

@@ -5,7 +5,7 @@ use mathlib.Core.List.{List as ListOf, []}
 use mathlib.Core.Path.{_≡_, ap, _∙_}
 use lib.ListN.{length}
 use Rattle.layout.specs.Walk.{Walk, fine, refused, refusal, Reader, after, times}
-use Rattle.layout.proofs.Inversion.{came}
+use Rattle.layout.proofs.Inversion.{Reads, came}
 use Rattle.section.specs.Limits.{Limits}
 use Rattle.section.specs.declared.keyframes.Keyframes.{Keyframes}
 use Rattle.section.specs.declared.model.Model.{Model}
@@ -37,11 +37,6 @@ module _ (limits : Limits) (s : ListOf ℕ) (m : Model) (b : Blocks limits s m) 
   list-stands List.MorphStates = omega (arith, b .states .constraints, b .states .parents, b .states .ends, b .whole)
   list-stands List.ConstraintStates = omega (arith, b .states .parents, b .states .ends, b .whole)
   list-stands List.OutsideParentStates = omega (arith, b .states .ends, b .whole)
-
-pub record Reads {A : Type 0} (w : Walk A) : Type 0 where
-  pub value : A
-  pub to : ℕ
-  pub is : w ≡ fine value to
 
 -- Of a list with so many entries: entry k, which is read if it is there.
 abbrev pub ByNumber : {A : Type 0} → ℕ → ℕ → Walk A → Type 0

@@ -5,15 +5,16 @@
    written may overlap another slice. The call takes every other value of its arguments, and keeps nothing.
 
    With A additional bones and B additional morphs, `first` and `second` need A + B places each. It returns 0 and writes the strip into
-   `output`, the record positions by rising index into `first`, each record's track number plus 1, or 0 if it is loose, into `second`,
-   and the strip's length, reached and loose into `values`. Or it returns the refusal's number and writes its values into `values`:
+   `output`; into `first` the positions of the bone records by rising index and behind them those of the morph records, both counted from
+   0; into `second`, for the bone records and behind them for the morph records, in file order, the record's track number plus 1, or 0 if it
+   is loose; and the strip's length, reached and loose into `values`. Or it returns the refusal's number and writes its values into `values`:
 
       1   the bytes end inside a value, or the start is past the end           the offset of the item that is not whole
       2   a count is negative                                                  the offset of the count
       3   an additional record's index is negative                             kind, index
       4   an additional record's index is below its kind's number of tracks    kind, index, number of tracks
       5   two additional records of a kind have the same index                 kind, index
-      6   a link leads to no record                                            kind, track, link
+      6   no additional record of the kind has the index that a link names     kind, track, link
       7   a chain comes back to a record of its own                            kind, track, link
       8   a record's previous link is not the one it was reached from          kind, track, link, found, expected
      10   a key's frame is negative                                            kind, track, frame
@@ -39,8 +40,8 @@
    `output` as it was; 3 to 15 and 18 leave the first A + B places of `first` and `second` 0, other refusals leave them as they were.
    Later places of every slice stay as they were.
 
-   No strip is longer than its section, and A and B are at most 65,534 each: an output as long as the section is always enough and is
-   filled the fastest, because the strip is then not measured before it is written.
+   No strip is longer than the bytes lent, and A and B are at most 65,534 each: an output as long as all bytes that are lent is always
+   enough and is filled the fastest, because the strip is then not measured before it is written.
 */
 #ifndef LIMDROVEN_STRIP_H
 #define LIMDROVEN_STRIP_H

@@ -4,7 +4,7 @@ use mathlib.Core.List.{List, [], _∷_, map}
 use mathlib.Core.Path.{_≡_}
 use mir.Syntax.{w32}
 use mir.Val.{ofZ}
-use Rattle.layout.specs.Walk.{Refusal, Answer, answered, declined}
+use Rattle.layout.specs.Walk.{Refusal, Answer, answered, declined, Answers}
 use Rattle.strip.specs.Call.{Built, Outcome}
 use Rattle.numbers.specs.Answers.{status}
 use Rattle.numbers.specs.Put.{put}
@@ -24,9 +24,10 @@ written (declined why) = values why
 abbrev pub Refuses : Refusal → List ℕ → ℕ → List ℕ → Type 0
 Refuses why before returned now = (returned ≡ why .number) × (now ≡ put 0 (values why) before)
 
--- The number returned, and every slice afterwards.
+-- The number returned, which is 0 only where the section is accepted, and every slice afterwards.
 pub record Leaves (o : Outcome) (before : List ℕ) (returned : ℕ) (first second output now : List ℕ) : Type 0 where
   pub returns : returned ≡ status (o .answer)
+  pub zero : returned ≡ 0 → Answers (o .answer)
   pub leavesFirst : first ≡ o .first
   pub leavesSecond : second ≡ o .second
   pub leavesOutput : output ≡ o .output

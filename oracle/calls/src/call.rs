@@ -87,11 +87,6 @@ impl Call {
     pub fn of_light(self) -> bool {
         matches!(self, Self::LightSummary | Self::LightKeyframe | Self::LightPayload)
     }
-
-    /// How many zero bytes a bytes call answers where its twin refuses.
-    pub fn bytes_when_refused(self) -> usize {
-        if self == Self::BoneInterpolation { 16 } else { 0 }
-    }
 }
 
 #[cfg(test)]

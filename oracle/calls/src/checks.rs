@@ -82,10 +82,10 @@ fn refused(section: Section, refusal: &Refusal, hand: &mut impl FnMut(Check)) {
     }
 }
 
-/// A refusal as a call answers it.
+/// A refusal as a call answers it: a bytes call hands back nothing.
 pub fn refused_by(call: Call, refusal: &Refusal) -> Answer {
     if call.answers_bytes() {
-        return Answer::Bytes(vec![0; call.bytes_when_refused()]);
+        return Answer::Bytes(Vec::new());
     }
     let values = refusal.values.iter().map(|value| u64::try_from(*value).expect("a place")).collect();
     Answer::Numbers(u32::from(refusal.number), values)

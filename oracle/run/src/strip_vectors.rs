@@ -70,16 +70,14 @@ fn vector(family: &'static str, turn: usize, case: &Case) -> (Outcome, Vector<Ca
     let expected = expected(case).expect("the Rust does not contradict the walk");
     let strip = expected.strip.as_ref().expect("a model section");
     let need = expected.work_places();
-    let checks = (0..ROOMS.len()).map(|room| call(strip, need, room, turn)).collect();
+    let checks = (0..ROOMS.len()).map(|room| call(&case.section, strip, need, room, turn)).collect();
     let outcome = strip.as_ref().map_or_else(|refusal| (refusal.number, refusal.kind), |_| (0, None));
     (outcome, Vector { family, start: case.start, section: case.section.clone(), checks })
 }
 
 /// `need` is A + B of a section that is read. Eight values are lent or, from call to call, none to seven.
-fn call(strip: &Result<Strip, Refusal>, need: Option<usize>, room: usize, turn: usize) -> Call {
-    let places = need.unwrap_or(0);
-    let length = strip.as_ref().map_or(0, |strip| strip.bytes.len());
-    let [first, second, output] = lent(room, [places, places, length]);
+fn call(section: &[u8], strip: &Result<Strip, Refusal>, need: Option<usize>, room: usize, turn: usize) -> Call {
+    let [first, second, output] = lent(room, section, strip, need);
     let values = if room == 0 { MOST_VALUES } else { (turn + room) as u64 % MOST_VALUES };
     let before = Slices {
         first: vec![BEFORE_PLACE; first],

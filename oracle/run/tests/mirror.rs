@@ -22,7 +22,7 @@ struct Change {
     numbers: fn(Call, &mut [u64]),
     length: fn(Call, u64) -> u64,
     bytes: fn(Call, &mut [u8]),
-    strip: fn(&mut Slices),
+    strip: fn(&[u8], &mut Slices),
     strip_status: fn(u32) -> u32,
 }
 
@@ -31,7 +31,7 @@ const SAME: Change = Change {
     numbers: |_, _| (),
     length: |_, length| length,
     bytes: |_, _| (),
-    strip: |_| (),
+    strip: |_, _| (),
     strip_status: |status| status,
 };
 
@@ -50,10 +50,10 @@ impl Other for Mirror<'_> {
         (self.change.length)(call, bytes.len() as u64)
     }
 
-    fn strip(&self, _: &[u8], _: u64, slices: &mut Slices) -> u32 {
+    fn strip(&self, section: &[u8], _: u64, slices: &mut Slices) -> u32 {
         let left = left(self.strip.expect("a model section"), self.work_places, slices);
         *slices = left.slices;
-        (self.change.strip)(slices);
+        (self.change.strip)(section, slices);
         (self.change.strip_status)(left.status)
     }
 }
@@ -101,6 +101,8 @@ fn changes_are_noticed() {
     assert!(differences(&Change { bytes: byte, ..SAME }) > 100);
     let length = |call: Call, length: u64| length + u64::from(call == Call::Path);
     assert!(differences(&Change { length, ..SAME }) > 100);
+    let length = |call: Call, length: u64| if call == Call::BoneInterpolation { 16 } else { length };
+    assert!(differences(&Change { length, ..SAME }) > 100);
     let absent = |_: Call, status: u32| if status == 19 { 0 } else { status };
     assert!(differences(&Change { status: absent, ..SAME }) > 1000);
     let short = |_: Call, status: u32| if status == 1 { 2 } else { status };
@@ -109,16 +111,28 @@ fn changes_are_noticed() {
 
 #[test]
 fn changes_of_strips_are_noticed() {
-    let last = |slices: &mut Slices| slices.output.iter_mut().last().into_iter().for_each(|byte| *byte ^= 1);
+    let last = |_: &[u8], slices: &mut Slices| slices.output.iter_mut().last().into_iter().for_each(|byte| *byte ^= 1);
     assert!(differences(&Change { strip: last, ..SAME }) > 100);
-    let first = |slices: &mut Slices| slices.first.iter_mut().take(1).for_each(|place| *place ^= 1);
+    let first = |_: &[u8], slices: &mut Slices| slices.first.iter_mut().take(1).for_each(|place| *place ^= 1);
     assert!(differences(&Change { strip: first, ..SAME }) > 100);
-    let second = |slices: &mut Slices| slices.second.iter_mut().last().into_iter().for_each(|place| *place ^= 1);
+    let second =
+        |_: &[u8], slices: &mut Slices| slices.second.iter_mut().last().into_iter().for_each(|place| *place ^= 1);
     assert!(differences(&Change { strip: second, ..SAME }) > 100);
-    let values = |slices: &mut Slices| slices.values.iter_mut().skip(2).take(1).for_each(|value| *value += 1);
+    let values = |_: &[u8], slices: &mut Slices| slices.values.iter_mut().skip(2).take(1).for_each(|value| *value += 1);
     assert!(differences(&Change { strip: values, ..SAME }) > 100);
+    let whole = |section: &[u8], slices: &mut Slices| change_output(slices, section.len());
+    assert!(differences(&Change { strip: whole, ..SAME }) > 100);
+    let shorter = |section: &[u8], slices: &mut Slices| change_output(slices, section.len().saturating_sub(1));
+    assert!(differences(&Change { strip: shorter, ..SAME }) > 100);
     let work = |status: u32| if status == 17 { 18 } else { status };
     assert!(differences(&Change { strip_status: work, ..SAME }) > 100);
     let output = |status: u32| if status == 18 { 0 } else { status };
     assert!(differences(&Change { strip_status: output, ..SAME }) > 100);
+}
+
+/// Changes an output of this length alone.
+fn change_output(slices: &mut Slices, length: usize) {
+    if slices.output.len() == length {
+        slices.output.iter_mut().take(1).for_each(|byte| *byte ^= 1);
+    }
 }

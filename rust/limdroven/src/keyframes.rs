@@ -89,8 +89,9 @@ pub fn bone_interpolation(
     include_index: bool,
     number: usize,
 ) -> Result<[[u8; 4]; 4], Refusal> {
-    bone_keyframe(section, start, include_index, number)?;
     let mut curves = [[0; 4]; 4];
-    raw::bone_interpolation(section, start, include_index, number, curves.as_flattened_mut());
+    if raw::bone_interpolation(section, start, include_index, number, curves.as_flattened_mut()) == 0 {
+        bone_keyframe(section, start, include_index, number)?;
+    }
     Ok(curves)
 }

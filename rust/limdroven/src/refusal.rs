@@ -83,7 +83,7 @@ refusals! {
     4 IndexBelowCount { kind: Kind, index: i32, count: usize }
     /// Two additional records of a kind have the same index.
     5 RepeatedIndex { kind: Kind, index: i32 }
-    /// A link leads to no record.
+    /// No additional record of the kind has the index that a link names.
     6 MissingLink { kind: Kind, track: usize, link: i32 }
     /// A chain comes back to a record of its own.
     7 Cycle { kind: Kind, track: usize, link: i32 }
@@ -146,7 +146,7 @@ impl fmt::Display for Refusal {
                 write!(formatter, "two additional {kind} records have the index {index}")
             }
             Self::MissingLink { kind, track, link } => {
-                write!(formatter, "the chain of {kind} track {track} has the link {link}, which leads to no record")
+                write!(formatter, "the chain of {kind} track {track} has the link {link}, which is the index of no additional record")
             }
             Self::Cycle { kind, track, link } => {
                 write!(formatter, "the chain of {kind} track {track} comes back to its record of index {link}")

@@ -123,3 +123,20 @@ fn no_places() {
     assert_eq!(raw::strip(&[0; 340], 0, &mut [], &mut [], &mut [], &mut []), 18);
     assert_eq!(raw::strip(&[0; 340], 0, &mut [], &mut [], &mut [0; 4], &mut []), 0);
 }
+
+/// A call that answers bytes.
+type Bytes = fn(&[u8], usize, bool, usize, &mut [u8]) -> usize;
+
+/// The calls as they are hand back nothing and leave the slice as it was where there is no record, or none is read.
+#[test]
+fn nothing_handed_back() {
+    let of_model: [Bytes; 4] = [raw::bone_payload, raw::morph_payload, raw::model_payload, raw::bone_interpolation];
+    let of_tracks: [Bytes; 3] = [raw::camera_payload, raw::light_payload, raw::camera_interpolation];
+    for call in of_model.into_iter().chain(of_tracks) {
+        for (start, include_index, number) in [(0, false, 1), (0, true, 0), (340, false, 0)] {
+            let mut output = [7; 20];
+            assert_eq!(call(&[0; 340], start, include_index, number, &mut output), 0);
+            assert_eq!(output, [7; 20]);
+        }
+    }
+}

@@ -73,9 +73,9 @@ fn indices() {
 
 #[test]
 fn chains() {
-    let words = "the chain of KIND track 0 has the link 2, which leads to no record";
+    let words = "the chain of KIND track 0 has the link 2, which is the index of no additional record";
     of_both([0, 0, 0, 2], &[[1, 1, 0, 0]], 6, &[("track", 0), ("link", 2)], words);
-    let words = "the chain of KIND track 0 has the link -5, which leads to no record";
+    let words = "the chain of KIND track 0 has the link -5, which is the index of no additional record";
     of_both([0, 0, 0, -5], &[[1, 1, 0, 0]], 6, &[("track", 0), ("link", -5)], words);
     let words = "the chain of KIND track 0 comes back to its record of index 1";
     of_both(LINKED, &[[1, 1, 0, 1]], 7, &[("track", 0), ("link", 1)], words);

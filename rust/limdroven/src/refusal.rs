@@ -146,7 +146,10 @@ impl fmt::Display for Refusal {
                 write!(formatter, "two additional {kind} records have the index {index}")
             }
             Self::MissingLink { kind, track, link } => {
-                write!(formatter, "the chain of {kind} track {track} has the link {link}, which is the index of no additional record")
+                write!(
+                    formatter,
+                    "the chain of {kind} track {track} has the link {link}, which is the index of no additional record"
+                )
             }
             Self::Cycle { kind, track, link } => {
                 write!(formatter, "the chain of {kind} track {track} comes back to its record of index {link}")

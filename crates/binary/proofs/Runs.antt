@@ -1,15 +1,13 @@
 -- The arithmetic of runs: sizes add up, and places are found run by run. Assumes nothing.
-use Prim.Native.Nat.{ℕ, suc, _+_, _-_, _*_, _/_, _%_, _≤_, _<_}
-use mathlib.Core.List.{List, [], _∷_, _++_}
-use mathlib.Core.Bool.{cond}
+use Prim.Native.Nat.{ℕ, _+_, _-_, _*_, _/_, _≤_, _<_}
+use mathlib.Core.List.{List, []}
 use mathlib.Core.Path.{_≡_, refl, sym, ap, _∙_}
 use native.Mathlib.Nat.{mul-le-mul-left, div-mul-le-self}
 use native.Mathlib.Omega.{arith}
 use borrow.Author.Tests.{le-leb, lt-leb}
-use lib.ListN.{replicate}
 use Rattle.layout.specs.Records.{size}
 use Rattle.layout.proofs.Sizes.{size-run}
-use Rattle.layout.specs.Blocks.{place, runPlace}
+use Rattle.layout.specs.Blocks.{place}
 use Rattle.layout.proofs.Blocks.{place-run, run-whole, run-short, pos-of-mul}
 use Rattle.binary.specs.Items.{widths, run, RunSize, PlaceInRun}
 use Rattle.binary.specs.declared.blocks.Run.{Run}

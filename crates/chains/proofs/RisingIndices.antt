@@ -7,7 +7,6 @@ use mathlib.Core.Option.{none}
 use mathlib.Core.Path.{_≡_, refl, sym, subst}
 use borrow.Author.Tests.{leb-true}
 use lib.Dec.{leb}
-use lib.ListN.{getD}
 use Rattle.order.specs.Field.{numberOf, keyOf}
 use Rattle.order.specs.Repeat.{FirstRepeat, upTo}
 use Rattle.order.specs.Sorted.{Sorted}

@@ -35,7 +35,7 @@ item-ends {A} width value s at a next e = go (leb (at + width) (length s)) e
     go true e = sym (same-next e)
     go false e = absurd (let z : _≡_ {A = ℕ} 0 1 = cc in omega arith)
 
-items-end : (widths s : List ℕ) (at next : ℕ) → items widths s at ≡ fine tt next → next ≡ at + size widths
+pub items-end : (widths s : List ℕ) (at next : ℕ) → items widths s at ≡ fine tt next → next ≡ at + size widths
 unfolding items size
 items-end [] s at next e = let n = same-next e in omega (arith, n)
 items-end (width ∷ widths) s at next e =

@@ -2,7 +2,7 @@
 -- track, keys that pass, and both links 0 in every record that no chain holds. So 9 is never met. Assumes nothing.
 use Prim.Native.Nat.{ℕ, _<_}
 use native.Mathlib.Omega.{arith}
-use mathlib.Core.Bool.{Bool, true, false, not, _&&_, _||_}
+use mathlib.Core.Bool.{Bool, true, false, not, _&&_}
 use mathlib.Core.List.{List, [], _∷_, map}
 use mathlib.Core.Option.{Option, none}
 use mathlib.Core.Path.{_≡_, refl}

@@ -6,7 +6,7 @@ use mathlib.Core.Bool.{Bool, true, false}
 use mathlib.Core.List.{List}
 use mathlib.Core.Path.{_≡_, refl, sym, ap, _∙_}
 use Rattle.layout.specs.Walk.{Reader, _>>=_, _>>_, give, fine, u32At, u32, bool, block}
-use Rattle.layout.proofs.Inversion.{Came, came, Was, item-was}
+use Rattle.layout.proofs.Inversion.{came, Was, item-was}
 use Rattle.binary.specs.Groups.{u32x3}
 use Rattle.binary.specs.declared.groups.Bits3.{Bits3}
 use Rattle.records.specs.Base.{baseBits}

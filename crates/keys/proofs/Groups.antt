@@ -5,12 +5,12 @@ use native.Mathlib.Decide.{ℕ-discrete}
 use native.Mathlib.Omega.{arith}
 use borrow.Author.Tests.{eq-eqb, ne-eqb}
 use mathlib.Core.Bool.{Bool, true, false, _&&_, cond}
-use mathlib.Core.List.{List, [], _∷_, _++_, map}
+use mathlib.Core.List.{List, [], _∷_, _++_}
 use mathlib.Core.Path.{_≡_, refl, sym, ap, _∙_}
 use lib.Dec.{eqb}
 use lib.Ieee.{eq}
 use lib.ListN.{length, getD, take, drop}
-use Rattle.records.specs.Curves.{curveAt, curvesAt}
+use Rattle.records.specs.Curves.{curveAt}
 use Rattle.records.specs.Pose.{float}
 use Rattle.records.specs.declared.pose.Pose.{Pose}
 use Rattle.clip.specs.Fields.{BoneBody}

@@ -4,7 +4,7 @@ use native.Mathlib.Omega.{arith}
 use mathlib.Core.List.{List}
 use mathlib.Core.Path.{_≡_, ap, _∙_}
 use Rattle.layout.specs.Walk.{fine, u32At, u32}
-use Rattle.layout.proofs.Inversion.{Came, came, Was, item-was}
+use Rattle.layout.proofs.Inversion.{came, Was, item-was}
 use Rattle.binary.specs.Groups.{u32x3, u32x4}
 use Rattle.binary.specs.declared.groups.Bits3.{Bits3}
 use Rattle.binary.specs.declared.groups.Bits4.{Bits4}

@@ -5,7 +5,7 @@ use native.Mathlib.Numerals.{add-one}
 use native.Mathlib.Omega.{arith}
 use mathlib.Core.List.{List, [], _∷_, _++_, append-assoc, append-nil}
 use mathlib.Core.Path.{_≡_, refl, sym, ap, _∙_, subst}
-use lib.ListN.{length, getD, set, length-append, length-set}
+use lib.ListN.{length, getD, set, length-append}
 use Rattle.clip.specs.Section.{bytesAt}
 use Rattle.strip.specs.Keys.{littleEndian}
 use Rattle.strip.proofs.Bytes.{length-littleEndian}

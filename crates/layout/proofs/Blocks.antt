@@ -9,7 +9,7 @@ use native.Mathlib.Decide.{decLe}
 use native.Mathlib.Omega.{arith}
 use borrow.Author.Tests.{le-leb, lt-leb}
 use lib.ListN.{length, replicate}
-use Rattle.layout.specs.Walk.{Walk, fine, refusedAt, items, times}
+use Rattle.layout.specs.Walk.{fine, refusedAt, items, times}
 use Rattle.layout.specs.Records.{size}
 use Rattle.layout.specs.Blocks.{place, runPlace}
 use Rattle.layout.proofs.Steps.{whole, short}

@@ -2,12 +2,12 @@
 use Prim.Native.Nat.{ℕ, _+_, _≤_, _<_, _^_}
 use mathlib.Core.Bool.{Bool, true, false, cond}
 use mathlib.Core.List.{List}
-use mathlib.Core.Path.{_≡_, refl, sym, subst, _∙_}
+use mathlib.Core.Path.{_≡_, refl}
 use native.Mathlib.Omega.{arith}
-use borrow.Author.Tests.{leb-true, leb-false, ltb-true, ltb-false}
+use borrow.Author.Tests.{leb-true, leb-false, ltb-false}
 use lib.Dec.{leb, ltb}
 use lib.ListN.{length}
-use Rattle.layout.specs.Walk.{Refusal, Walk, fine, refused, refusedAt, Reader, after, item, u32, count}
+use Rattle.layout.specs.Walk.{Walk, fine, refused, refusedAt, after, item, u32, count}
 
 -- The step in front, and what follows it.
 pub record Came {A B : Type 0} (w : Walk A) (f : A → ℕ → Walk B) (b : B) (next : ℕ) : Type 0 where

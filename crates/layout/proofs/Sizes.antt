@@ -1,8 +1,8 @@
 -- The sizes of document 01's record table follow from the items' widths. Assumes nothing.
 use Prim.Native.Nat.{ℕ, zero, suc, _+_, _*_}
 use mathlib.Core.List.{List, [], _∷_, _++_}
-use mathlib.Core.Path.{_≡_, refl, sym, ap, _∙_}
-use native.Mathlib.Nat.{suc-mul, zero-mul, add-assoc, zero-add}
+use mathlib.Core.Path.{_≡_, refl}
+use native.Mathlib.Nat.{suc-mul, zero-mul}
 use native.Mathlib.Omega.{arith}
 use lib.ListN.{replicate}
 use Rattle.layout.specs.Records.{size, initial, additional, bone, morph, model, camera, light, boneState, morphState, constraintState, parentState}

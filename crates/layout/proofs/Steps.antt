@@ -8,7 +8,7 @@ use borrow.Author.Tests.{le-leb, lt-leb, lt-ltb, le-ltb}
 use lib.ListN.{length}
 use lib.Dec.{leb, ltb}
 use mathlib.Core.Bool.{Bool, true, false, cond}
-use Rattle.layout.specs.Walk.{Refusal, Walk, fine, refused, refusedAt, Reader, after, item, block, times, Answer, answered, declined, answer}
+use Rattle.layout.specs.Walk.{Refusal, Walk, fine, refused, refusedAt, Reader, after, item, block, times, Answer, declined, answer}
 
 module _ {A : Type 0} (width : ℕ) (value : List ℕ → ℕ → A) (s : List ℕ) (at : ℕ) where
   pub whole : at + width ≤ length s → item width value s at ≡ fine (value s at) (at + width)

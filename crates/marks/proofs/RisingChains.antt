@@ -22,7 +22,7 @@ use Rattle.clip.proofs.Shared.{never-shared}
 use Rattle.chains.specs.Block.{kindOf, links}
 use Rattle.track_keys.specs.Keys.{keyMeets}
 use Rattle.chains.specs.Lookup.{Ordered}
-use Rattle.track_keys.specs.Tracks.{meets, testAt}
+use Rattle.track_keys.specs.Tracks.{testAt}
 use Rattle.chains.specs.declared.block.Block.{Block}
 use Rattle.marks.specs.Marks.{marked}
 use Rattle.marks.specs.Rising.{Behind, OneMarked, ChainMarked}

@@ -7,7 +7,7 @@ use Rattle.layout.specs.Walk.{Refusal, Answer, answered, declined}
 use Rattle.binary.specs.Answers.{because}
 use Rattle.binary.specs.declared.counts.Refusal.{Refusal as Refused}
 use Rattle.numbers.specs.Put.{put}
-use Rattle.numbers.specs.Answers.{values, status, written, Refuses, Says, Hands}
+use Rattle.numbers.specs.Answers.{values, Refuses, Says, Hands}
 
 -- No refusal has the number 0.
 pub some-number : (why : Refused) → 0 < because why .number

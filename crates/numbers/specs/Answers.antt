@@ -1,7 +1,7 @@
 -- What a call returns and writes of an answer: 0 and the answer's numbers, or the refusal's number and its values.
 -- Definitions only.
 use Prim.Native.Nat.{ℕ, _<_}
-use mathlib.Core.List.{List, [], _∷_, map}
+use mathlib.Core.List.{List, map}
 use mathlib.Core.Path.{_≡_}
 use lib.ListN.{length}
 use mir.Syntax.{w64}

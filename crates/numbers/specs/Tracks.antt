@@ -1,7 +1,7 @@
 -- The numbers of camera and light sections and their records. Definitions only.
 use Prim.Native.Nat.{ℕ}
 use mathlib.Core.List.{List, [], _∷_, _++_}
-use Rattle.numbers.specs.Scalars.{signed, flag, float}
+use Rattle.numbers.specs.Scalars.{signed, flag}
 use Rattle.numbers.specs.States.{float as distance}
 use Rattle.numbers.specs.Groups.{base, vector, span}
 use Rattle.tracks.specs.declared.track.PmmDocumentTrackSummary.{PmmDocumentTrackSummary}

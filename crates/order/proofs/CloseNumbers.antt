@@ -3,7 +3,7 @@ use Prim.Native.Nat.{ℕ, _+_, _*_, _-_, _≤_, _<_}
 use native.Mathlib.Omega.{arith}
 use mathlib.Core.Bool.{Bool, true, false}
 use mathlib.Core.List.{List}
-use mathlib.Core.Path.{_≡_, refl, sym, ap, _∙_, subst}
+use mathlib.Core.Path.{_≡_, refl, ap, _∙_, subst}
 use lib.ListN.{length, replicate, length-replicate}
 use Rattle.flags.specs.Flags.{Raised}
 use Rattle.flags.proofs.Meeting.{Met, none-met, met-new, met-before, met-more}

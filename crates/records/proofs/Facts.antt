@@ -5,7 +5,7 @@ use mathlib.Core.List.{List}
 use mathlib.Core.Path.{_≡_, sym, ap, subst, _∙_}
 use lib.ListN.{length}
 use Rattle.layout.specs.Walk.{fine, block, bool}
-use Rattle.layout.proofs.Inversion.{Came, came, item-fits}
+use Rattle.layout.proofs.Inversion.{came, item-fits}
 use Rattle.binary.specs.Groups.{u32x3}
 use Rattle.records.specs.Base.{indexBits, baseBits}
 use Rattle.records.specs.Pose.{poseBits}

@@ -1,13 +1,13 @@
 -- What holds of a section that was read. Assumes nothing.
-use Prim.Native.Nat.{ℕ, _<_, _≤_}
+use Prim.Native.Nat.{ℕ, _<_}
 use mathlib.Core.Bool.{Bool, true, false, cond}
 use mathlib.Core.List.{List, []}
 use native.Mathlib.Omega.{arith}
 use lib.Dec.{ltb}
 use lib.ListN.{length}
-use mathlib.Core.Path.{_≡_, ap, sym, subst, _∙_}
-use Rattle.layout.specs.Walk.{Walk, fine, refused, refusal, count, unlimited, block, u8}
-use Rattle.layout.proofs.Inversion.{Came, came, Counted, counted, same-value}
+use mathlib.Core.Path.{_≡_, ap, subst}
+use Rattle.layout.specs.Walk.{fine, refused, refusal, count, unlimited, block}
+use Rattle.layout.proofs.Inversion.{came, counted, same-value}
 use Rattle.section.specs.Limits.{Limits}
 use Rattle.section.specs.Model.{opening, names, entries, counts, view, scroll, front, keyframeBlocks, states, ending, modelParts, modelSection}
 use Rattle.section.specs.declared.names.Counts.{Counts}

@@ -1,5 +1,4 @@
 -- What each answer says in document 01's terms: what was read and the offset behind it, or a refusal by its number and values.
-use Prim.Native.Nat.{ℕ}
 use Rattle.layout.specs.Walk.{Walk, fine, refused}
 use Rattle.binary.specs.Answers.{because}
 use Rattle.section.specs.declared.opening.Opening.{Opening}

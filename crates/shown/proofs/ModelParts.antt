@@ -1,5 +1,5 @@
 -- The bools and pairs of a model record that was read. Assumes nothing.
-use Prim.Native.Nat.{ℕ, _<_, _≤_}
+use Prim.Native.Nat.{ℕ, _<_}
 use mathlib.Core.Bool.{Bool}
 use mathlib.Core.List.{List as ListOf, [], _∷_}
 use mathlib.Core.Path.{_≡_, refl, ap, subst, _∙_}

@@ -1,11 +1,11 @@
 -- The numbers below the summary's counts are answered, and all others are 19 (specs/Told). Assumes nothing.
-use Prim.Native.Nat.{ℕ, _<_, _≤_}
+use Prim.Native.Nat.{ℕ}
 use mathlib.Core.Bool.{Bool, true, false}
-use mathlib.Core.List.{List as ListOf, []}
+use mathlib.Core.List.{List as ListOf}
 use mathlib.Core.Path.{_≡_, refl, subst}
 use native.Mathlib.Omega.{arith}
 use borrow.Author.Tests.{lt-ltb, le-ltb}
-use Rattle.layout.specs.Walk.{Refusal, Walk, fine, refused, Reader, Answer, answered, declined, answer, after, Part, entryOf}
+use Rattle.layout.specs.Walk.{Refusal, Walk, fine, refused, Reader, Answer, answered, declined, answer, after, Part}
 use Rattle.layout.proofs.Walks.{Walks, walks-bool, walks-u32}
 use Rattle.records.proofs.Table.{bones-walk, morphs-walk, models-walk, bone-states-walk, u32x4-walks}
 use Rattle.records.specs.Keyframes.{modelBits}
@@ -21,7 +21,6 @@ use Rattle.lists.specs.Keyframes.{boneList, morphList, modelList}
 use Rattle.strip.specs.Call.{stripCall}
 use Rattle.lists.specs.Texts.{nameAt, textAt, textOf}
 use Rattle.lists.specs.declared.lists.List.{List}
-use Rattle.lists.specs.declared.texts.Text.{Text}
 use Rattle.clip.proofs.Facts.{NamesRead, Blocks, blocks}
 use Rattle.shown.specs.Told.{Told, PartsTold, AllTold, AllDeclined}
 use Rattle.shown.proofs.Entries.{Finds, entry-whole, answered-by, declined-by, declined-found, found-there, found-past, entries-told}

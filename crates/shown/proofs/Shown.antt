@@ -1,7 +1,6 @@
 -- The record of a number that a call shows is the record of that position that a build takes: the same index, frame, links, pose or weight,
 -- and curves. Assumes nothing.
 use Prim.Native.Nat.{ℕ, _<_}
-use native.Mathlib.Omega.{arith}
 use mathlib.Core.Bool.{true, false}
 use mathlib.Core.List.{List as ListOf}
 use mathlib.Core.Path.{_≡_, refl, sym, ap, subst}

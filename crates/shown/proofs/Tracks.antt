@@ -1,6 +1,6 @@
 -- Camera and light records: the numbers below the summary's counts are answered, and all others are 19; where the summary is refused, so are
 -- they (specs/Told). Assumes nothing.
-use Prim.Native.Nat.{ℕ, _+_, _<_, _≤_}
+use Prim.Native.Nat.{ℕ, _<_, _≤_}
 use native.Mathlib.Omega.{arith}
 use mathlib.Core.Bool.{Bool, true, false, cond}
 use mathlib.Core.List.{List, []}

@@ -1,7 +1,7 @@
 -- Demand 3 (specs, Demand3). Assumes nothing.
 use Prim.Native.Nat.{ℕ, suc, _^_, _<_}
 use native.Mathlib.Omega.{arith}
-use mathlib.Core.List.{List, [], _∷_, _++_, append-assoc, append-nil}
+use mathlib.Core.List.{List, [], _++_, append-assoc, append-nil}
 use mathlib.Core.Logic.{_↔_}
 use mathlib.Core.Option.{none}
 use mathlib.Core.Path.{_≡_, sym, _∙_, subst}

@@ -1,5 +1,4 @@
 -- Demand 3 for any two runs of the strip call (specs, Demand3), from the contract and the theorems about the definition. Assumes nothing.
-use native.Mathlib.Omega.{arith}
 use mathlib.Core.Path.{_≡_, refl, sym, ap, _∙_}
 use lib.ListN.{take}
 use Rattle.layout.specs.Walk.{answered}

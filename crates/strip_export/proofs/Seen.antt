@@ -9,7 +9,7 @@ use Rattle.layout.specs.Walk.{Answer}
 use Rattle.section.specs.Limits.{edition1}
 use Rattle.strip.specs.Strip.{countWidth}
 use Rattle.strip.specs.Call.{Built}
-use Rattle.strip.specs.Runs.{Accepted, stripOut}
+use Rattle.strip.specs.Runs.{Accepted}
 use Rattle.numbers.specs.Answers.{status}
 use Rattle.numbers.specs.Put.{put}
 use Rattle.strip_export.specs.Answers.{written}

@@ -1,7 +1,7 @@
 -- The keys of a track, asked one by one, where it is known which frame is the first to be repeated. Assumes nothing.
 use Prim.Native.Nat.{ℕ, zero, suc, _<_}
 use native.Mathlib.Omega.{arith}
-use mathlib.Core.Bool.{true, false, _||_}
+use mathlib.Core.Bool.{true, false}
 use mathlib.Core.List.{List, [], _∷_}
 use mathlib.Core.Option.{Option, some}
 use mathlib.Core.Path.{_≡_, refl, sym, ap, _∙_}

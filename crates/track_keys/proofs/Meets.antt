@@ -10,7 +10,7 @@ use lib.Dec.{eqb}
 use lib.ListN.{length, getD, take}
 use lib.Seq.{getD-take}
 use Rattle.layout.specs.Walk.{Refusal, declined}
-use Rattle.clip.specs.First.{_or_, first, member}
+use Rattle.clip.specs.First.{_or_, member}
 use Rattle.clip.specs.Chain.{chain}
 use Rattle.clip.specs.Keys.{keyTest}
 use Rattle.clip.specs.Build.{positions, chainOf, trackRefusal}

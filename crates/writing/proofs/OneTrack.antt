@@ -3,7 +3,7 @@ use Prim.Native.Nat.{ℕ, _+_, _≤_}
 use native.Mathlib.Omega.{arith}
 use mathlib.Core.List.{List, _++_, append-assoc}
 use mathlib.Core.Path.{_≡_, ap, sym, _∙_, subst}
-use lib.ListN.{length, length-append}
+use lib.ListN.{length}
 use Rattle.strip.specs.Keys.{littleEndian}
 use Rattle.strip.proofs.Bytes.{length-littleEndian}
 use Rattle.keys.specs.Placed.{placed, Room, Wrote}

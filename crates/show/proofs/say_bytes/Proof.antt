@@ -1,5 +1,5 @@
 -- `say_bytes` meets its contract. Assumes nothing.
-use Prim.Native.Nat.{_-_, _≤_}
+use Prim.Native.Nat.{_-_}
 use lib.ListN.{length}
 use borrow.Author.Needs.{needs}
 use Rattle.show.proofs.say_bytes.Statement.{statement}

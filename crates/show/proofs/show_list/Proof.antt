@@ -1,6 +1,5 @@
 -- `show_list` meets its contract. Assumes nothing.
-use Prim.Native.Nat.{_-_, _≤_}
-use lib.ListN.{length}
+use Prim.Native.Nat.{_-_}
 use borrow.Author.Needs.{needs}
 use Rattle.show.proofs.show_list.Statement.{statement}
 use Rattle.show.proofs.show_list.Tie as tie

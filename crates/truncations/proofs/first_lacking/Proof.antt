@@ -1,5 +1,5 @@
 -- `first_lacking` meets its contract. Assumes nothing.
-use Prim.Native.Nat.{_-_, _≤_}
+use Prim.Native.Nat.{_-_}
 use lib.ListN.{length}
 use borrow.Author.Needs.{needs}
 use Rattle.truncations.proofs.first_lacking.Statement.{statement}

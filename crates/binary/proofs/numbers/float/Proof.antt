@@ -1,11 +1,10 @@
 -- `float` meets its contract: a pattern above an infinity's, its sign left off, is a NaN's, and there is one NaN. Assumes nothing.
-use mathlib.Core.Bool.{Bool, not, true, false}
+use mathlib.Core.Bool.{Bool, not}
 use mathlib.Core.Path.{_≡_, refl, sym, subst, _∙_}
-use Prim.Native.Nat.{ℕ, _%_, _<_, _≤_}
 use borrow.Author.Needs.{needs}
 use borrow.Author.Tests.{lt-ltb, le-ltb}
 use lib.Dec.{T}
-use lib.Ieee.{Float, nan, inf, fin, isNan, nanBits, ofBits, div, binary32}
+use lib.Ieee.{Float, nan, inf, fin, isNan, ofBits, div, binary32}
 use lib.Ieee.Bits.{nanBits-is, nanBits-above}
 use Rattle.binary.proofs.numbers.float.Statement.{statement}
 use Rattle.binary.proofs.numbers.float.Tie as tie

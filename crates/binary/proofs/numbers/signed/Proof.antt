@@ -1,9 +1,8 @@
 -- `signed` meets its contract: below 2 ^ 31 the bits are the number; from there on it is -1 - (2 ^ 32 - 1 - bits). Assumes nothing.
-use Prim.Native.Nat.{ℕ, zero, suc, _+_, _-_, _<_, _≤_, _^_}
-use mathlib.Core.Path.{_≡_, refl, sym, ap, subst, _∙_}
-use native.Mathlib.Nat.{zero-add}
+use Prim.Native.Nat.{ℕ, zero, suc, _-_, _<_, _≤_, _^_}
+use mathlib.Core.Path.{_≡_, refl, sym, ap, _∙_}
 use native.Mathlib.Omega.{arith}
-use lib.IntN.{ℤ, pos, negsuc, _-ℤ_, _+ℤ_, negℤ}
+use lib.IntN.{pos, negsuc, _-ℤ_}
 use mir.Syntax.{w32}
 use mir.Val.{SFits, toZ, ofZ, bits}
 use mir.ValLaws.{toZ-pos, toZ-neg, toZ-ofZ}

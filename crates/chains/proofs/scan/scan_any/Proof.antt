@@ -2,7 +2,7 @@
 use Rattle.chains.proofs.Scanned.{scan-repeated, scan-negative, scan-low, scan-passes, scan-refuses, scan-orders}
 use Rattle.chains.proofs.ByIndex.{index-field}
 use Rattle.order.specs.Close.{Repeated}
-use mathlib.Core.Path.{sym, _∙_, subst}
+use mathlib.Core.Path.{subst}
 use Prim.Native.Nat.{ℕ}
 use native.Mathlib.Omega.{arith}
 use Rattle.chains.proofs.scan.scan_any.Statement.{statement}

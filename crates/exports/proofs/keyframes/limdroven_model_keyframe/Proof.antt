@@ -1,5 +1,5 @@
 -- `limdroven_model_keyframe` meets its contract: what was read is refused, or its numbers are written. Assumes nothing.
-use mathlib.Core.Path.{_≡_, refl}
+use mathlib.Core.Path.{refl}
 use Rattle.numbers.specs.Keyframes.{model}
 use Rattle.lists.specs.Answers.{modelKeyframeRead}
 use Rattle.numbers.proofs.Said.{said-answer, said-refusal}

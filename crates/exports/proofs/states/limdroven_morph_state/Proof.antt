@@ -1,5 +1,5 @@
 -- `limdroven_morph_state` meets its contract: what was read is refused, or its numbers are written. Assumes nothing.
-use mathlib.Core.Path.{_≡_, refl}
+use mathlib.Core.Path.{refl}
 use Rattle.numbers.specs.States.{float}
 use Rattle.lists.specs.Answers.{morphStateRead}
 use Rattle.numbers.proofs.Said.{said-answer, said-refusal}

@@ -1,5 +1,5 @@
 -- `limdroven_outside_parent_state` meets its contract: what was read is refused, or its numbers are written. Assumes nothing.
-use mathlib.Core.Path.{_≡_, refl}
+use mathlib.Core.Path.{refl}
 use Rattle.numbers.specs.States.{outsideParent}
 use Rattle.lists.specs.Answers.{outsideParentStateRead}
 use Rattle.numbers.proofs.Said.{said-answer, said-refusal}

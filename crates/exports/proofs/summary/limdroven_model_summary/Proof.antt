@@ -1,5 +1,5 @@
 -- `limdroven_model_summary` meets its contract: what was read is refused, or its numbers are written. Assumes nothing.
-use mathlib.Core.Path.{_≡_, refl}
+use mathlib.Core.Path.{refl}
 use Rattle.numbers.specs.Summary.{modelSummary}
 use Rattle.section.specs.Summary.{modelSummaryRead}
 use Rattle.numbers.proofs.Said.{said-answer, said-refusal}

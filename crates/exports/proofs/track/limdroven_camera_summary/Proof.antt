@@ -1,5 +1,5 @@
 -- `limdroven_camera_summary` meets its contract: what was read is refused, or its numbers are written. Assumes nothing.
-use mathlib.Core.Path.{_≡_, refl}
+use mathlib.Core.Path.{refl}
 use Rattle.numbers.specs.Tracks.{trackSummary}
 use Rattle.tracks.specs.Answers.{trackSummaryRead}
 use Rattle.numbers.proofs.Said.{said-answer, said-refusal}

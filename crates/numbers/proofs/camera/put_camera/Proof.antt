@@ -1,5 +1,5 @@
 -- `put_camera` meets its contract: each group is written behind the one before it. Assumes nothing.
-use mathlib.Core.Path.{_≡_, refl}
+use mathlib.Core.Path.{refl}
 use Rattle.numbers.specs.Tracks.{camera, cameraView}
 use Rattle.numbers.specs.Groups.{base, vector}
 use Rattle.numbers.specs.States.{float}

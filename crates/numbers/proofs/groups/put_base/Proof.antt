@@ -1,5 +1,5 @@
 -- `put_base` meets its contract: each number is made by a call. Assumes nothing.
-use mathlib.Core.Path.{_≡_, refl}
+use mathlib.Core.Path.{refl}
 use Rattle.numbers.specs.Groups.{base}
 use Rattle.numbers.proofs.Putting.{same, also, signed-is}
 use borrow.Author.Needs.{needs}

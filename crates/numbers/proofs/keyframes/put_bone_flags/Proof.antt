@@ -1,5 +1,5 @@
 -- `put_bone_flags` meets its contract: each number is made by a call. Assumes nothing.
-use mathlib.Core.Path.{_≡_, refl}
+use mathlib.Core.Path.{refl}
 use Rattle.numbers.specs.Keyframes.{boneFlags}
 use Rattle.numbers.proofs.Putting.{same, also}
 use borrow.Author.Needs.{needs}

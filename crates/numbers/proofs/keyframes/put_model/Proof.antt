@@ -1,5 +1,5 @@
 -- `put_model` meets its contract: each group is written behind the one before it. Assumes nothing.
-use mathlib.Core.Path.{_≡_, refl}
+use mathlib.Core.Path.{refl}
 use Rattle.numbers.specs.Keyframes.{model, modelFields}
 use Rattle.numbers.specs.Groups.{base}
 use Rattle.numbers.proofs.Putting.{behind}

@@ -1,5 +1,5 @@
 -- `refused` meets its contract, refusal by refusal. Assumes nothing.
-use mathlib.Core.Path.{_≡_, refl, sym}
+use mathlib.Core.Path.{refl, sym}
 use Rattle.numbers.proofs.Putting.{put-none}
 use Rattle.numbers.proofs.Said.{refusal-said}
 use borrow.Author.Needs.{needs}

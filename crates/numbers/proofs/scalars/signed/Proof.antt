@@ -1,5 +1,5 @@
 -- `signed` meets its contract: the pattern of -1 - n is 2 ^ 32 - 1 - n. Assumes nothing.
-use Prim.Native.Nat.{ℕ, suc, _-_, _≤_, zero-le}
+use Prim.Native.Nat.{suc, _-_, _≤_, zero-le}
 use mathlib.Core.Bool.{true, false}
 use mathlib.Core.Path.{_≡_, refl, sym, ap, subst, _∙_}
 use native.Mathlib.Omega.{arith}

@@ -1,5 +1,5 @@
 -- `put_bone_state` meets its contract: each group is written behind the one before it. Assumes nothing.
-use mathlib.Core.Path.{_≡_, refl}
+use mathlib.Core.Path.{refl}
 use Rattle.numbers.specs.States.{boneState}
 use Rattle.numbers.specs.Groups.{pose}
 use Rattle.numbers.proofs.Putting.{behind}

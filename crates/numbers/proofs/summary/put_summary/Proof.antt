@@ -1,5 +1,5 @@
 -- `put_summary` meets its contract: each group is written behind the one before it. Assumes nothing.
-use mathlib.Core.Path.{_≡_, refl}
+use mathlib.Core.Path.{refl}
 use Rattle.numbers.specs.Summary.{modelSummary, scalars, places, view, selected, counts, ending}
 use Rattle.numbers.proofs.Putting.{behind}
 use borrow.Author.Needs.{needs}

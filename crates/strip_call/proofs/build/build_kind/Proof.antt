@@ -3,7 +3,7 @@ use Rattle.strip_call.proofs.Built.{met-none, met-some, scan-meets}
 use Rattle.chains.specs.Block.{kindOf, links}
 use Rattle.clip.specs.Scan.{scan}
 use mathlib.Core.Option.{none}
-use mathlib.Core.Path.{_≡_, refl, _∙_}
+use mathlib.Core.Path.{_≡_, refl}
 use borrow.Author.Needs.{needs}
 use Rattle.strip_call.proofs.build.build_kind.Statement.{statement}
 use Rattle.strip_call.proofs.build.build_kind.Tie as tie

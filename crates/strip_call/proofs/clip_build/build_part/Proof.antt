@@ -6,7 +6,6 @@ use borrow.Rule.Slice.PartMut.{putMid}
 use mathlib.Core.Path.{sym, _∙_, subst}
 use mathlib.Core.List.{List}
 use Prim.Native.Nat.{ℕ, _+_, _-_}
-use native.Mathlib.Omega.{arith}
 use borrow.Author.Needs.{needs}
 use Rattle.strip_call.proofs.clip_build.build_part.Statement.{statement}
 use Rattle.strip_call.proofs.clip_build.build_part.Tie as tie

@@ -1,5 +1,5 @@
 -- `refused` meets its contract, refusal by refusal. Assumes nothing.
-use mathlib.Core.Path.{_≡_, refl}
+use mathlib.Core.Path.{refl}
 use Rattle.strip_call.specs.Answers.{refusalRead}
 use Rattle.strip_export.proofs.Told.{told}
 use borrow.Author.Needs.{needs}

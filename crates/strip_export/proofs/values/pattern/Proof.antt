@@ -1,5 +1,5 @@
 -- `pattern` meets its contract. Assumes nothing.
-use mathlib.Core.Path.{_≡_, sym}
+use mathlib.Core.Path.{sym}
 use mir.Syntax.{w32}
 use mir.ValLaws.{ofZ-toZ}
 use Rattle.strip_export.proofs.values.pattern.Statement.{statement}

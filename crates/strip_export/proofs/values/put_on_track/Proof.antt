@@ -1,5 +1,5 @@
 -- `put_on_track` meets its contract: each number is made by a call. Assumes nothing.
-use mathlib.Core.Path.{_≡_, refl}
+use mathlib.Core.Path.{refl}
 use Rattle.numbers.proofs.Putting.{same, also}
 use borrow.Author.Needs.{needs}
 use Rattle.strip_export.proofs.values.put_on_track.Statement.{statement}

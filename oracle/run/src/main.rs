@@ -6,7 +6,7 @@
 //! `oracle strip-vectors CRATE` one of strip calls.
 //! `oracle seeds FOLDER [FILES] [SEED]` writes generated sections as files for the fuzzer.
 //! `oracle case SEED NUMBER` shows one case and what is expected of it.
-//! `oracle apart COUNT` runs the Rust alone on 340 zero bytes but for the count of additional bones, and may abort.
+//! `oracle apart COUNT` runs the Rust alone on a section that ends behind this count of additional bones, and may abort.
 
 use std::env;
 use std::path::Path;
@@ -163,13 +163,13 @@ fn one(seed: u64, number: u64) -> ExitCode {
     ExitCode::SUCCESS
 }
 
-/// Where the count of additional bones stands in 340 zero bytes.
+/// Where the count of additional bones stands behind zero bytes.
 const ADDITIONAL_BONES: usize = 307;
 
 fn apart(count: u64) -> ExitCode {
-    let mut section = [0; 340];
-    section[ADDITIONAL_BONES..ADDITIONAL_BONES + 4].copy_from_slice(&(count as u32).to_le_bytes());
+    let mut section = [0; ADDITIONAL_BONES + 4];
+    section[ADDITIONAL_BONES..].copy_from_slice(&(count as u32).to_le_bytes());
     let read = if answers::model::summary(&section, 0).is_some() { "reads" } else { "does not read" };
-    println!("the Rust {read} {count} additional bones in 340 bytes");
+    println!("the Rust {read} {count} additional bones in {} bytes", section.len());
     ExitCode::SUCCESS
 }

@@ -35,7 +35,7 @@ pub record InitialShown {B : Type 0} (r : Initial B) (b : BaseBits) : Type 0 whe
   pub next : r .next ≡ b .next
 
 -- A bone's and a morph's fields behind the base.
-abbrev boneRest : BaseBits → Reader BoneBits
+abbrev pub boneRest : BaseBits → Reader BoneBits
 boneRest base = do
   block 16
   pose ← poseBits
@@ -43,7 +43,7 @@ boneRest base = do
   selected ← bool
   give (record { base = base; pose = pose; «physics_disabled» = physics; selected = selected })
 
-abbrev morphRest : BaseBits → Reader MorphBits
+abbrev pub morphRest : BaseBits → Reader MorphBits
 morphRest base = do
   weight ← u32
   selected ← bool
@@ -98,7 +98,7 @@ module _ (s : List ℕ) where
       let same : from + 28 ≡ from + 16 + 12 = omega arith in
       sym (pose-is s from) ∙ ap poseOf (ap pose same ∙ x .is)
 
-  bone-rest : (base : BaseBits) (from i : ℕ) (b : BoneBits) (next : ℕ) → from ≡ i → boneRest base s i ≡ fine b next → (base ≡ b .base) × (posed (boneBody s from) ≡ poseOf (b .pose))
+  pub bone-rest : (base : BaseBits) (from i : ℕ) (b : BoneBits) (next : ℕ) → from ≡ i → boneRest base s i ≡ fine b next → (base ≡ b .base) × (posed (boneBody s from) ≡ poseOf (b .pose))
   bone-rest base from i b next to e =
       let c = came (block 16 s i) _ b next e in
       let p = came (poseBits s (c .at)) _ b next (c .rest) in
@@ -112,7 +112,7 @@ module _ (s : List ℕ) where
           let there : from + 16 ≡ j = omega (arith, to, behind) in
           (ap (λ (v : BoneBits). v .base) whole, pose-shown from j p k there read ∙ ap (λ (v : BoneBits). poseOf (v .pose)) whole)
 
-  morph-rest : (base : BaseBits) (from i : ℕ) (b : MorphBits) (next : ℕ) → from ≡ i → morphRest base s i ≡ fine b next → (base ≡ b .base) × (floatAt (morphBody s from) 0 ≡ float (b .weight))
+  pub morph-rest : (base : BaseBits) (from i : ℕ) (b : MorphBits) (next : ℕ) → from ≡ i → morphRest base s i ≡ fine b next → (base ≡ b .base) × (floatAt (morphBody s from) 0 ≡ float (b .weight))
   morph-rest base from i b next to e =
       let w = came (u32 s i) _ b next e in
       let d = came (bool s (w .at)) _ b next (w .rest) in

@@ -6,12 +6,11 @@ use mathlib.Core.List.{List}
 use mathlib.Core.Path.{_≡_, refl, sym, ap}
 use lib.ListN.{length, take, drop, length-drop}
 use lib.Seq.{length-take-le}
-use Rattle.layout.specs.Walk.{fine, Reader, _>>=_, _>>_, give, here, block, bool, u32, times, items, answered}
+use Rattle.layout.specs.Walk.{fine, Reader, _>>=_, _>>_, give, here, bool, times, items, answered}
 use Rattle.layout.specs.Records.{bone, morph, model, camera, light, constraintState, pair, size}
 use Rattle.layout.proofs.Inversion.{came, same-value}
 use Rattle.layout.proofs.Walks.{Walks}
 use Rattle.binary.specs.Groups.{u32x3}
-use Rattle.records.specs.Pose.{poseBits}
 use Rattle.records.specs.Keyframes.{boneBits, boneOf, morphBits, morphOf, modelBits, modelOf}
 use Rattle.records.specs.declared.base.BaseBits.{BaseBits}
 use Rattle.records.specs.declared.bone.BoneBits.{BoneBits}
@@ -31,25 +30,12 @@ use Rattle.tracks.specs.declared.camera.CameraBits.{CameraBits}
 use Rattle.tracks.specs.declared.camera.CameraKeyframeSummary.{CameraKeyframeSummary}
 use Rattle.tracks.specs.declared.light.LightBits.{LightBits}
 use Rattle.tracks.proofs.Table.{cameras-walk, lights-walk}
+use Rattle.keys.proofs.AsShown.{boneRest, morphRest, bone-rest, morph-rest}
 use Rattle.shown.specs.Held.{Held, AllHeld}
 use Rattle.shown.proofs.Payloads.{front, record-items, ends-as, sized, some-items, met, payload-at, payload, payload-held}
 use Rattle.clip.proofs.Facts.{items-end}
 
--- The fields behind the base.
-abbrev boneRest : BaseBits → Reader BoneBits
-boneRest base = do
-  block 16
-  pose ← poseBits
-  physics ← bool
-  selected ← bool
-  give (record { base = base; pose = pose; «physics_disabled» = physics; selected = selected })
-
-abbrev morphRest : BaseBits → Reader MorphBits
-morphRest base = do
-  weight ← u32
-  selected ← bool
-  give (record { base = base; weight = weight; selected = selected })
-
+-- The fields behind the base; those of bones and morphs are in keys.
 abbrev modelRest : ℕ → ℕ → BaseBits → Reader ModelBits
 modelRest constraints parents base = do
   visible ← bool
@@ -84,18 +70,10 @@ lightRest base = do
 -- They keep it.
 module _ (s : List ℕ) (b : BaseBits) (i : ℕ) where
   bone-keeps : (v : BoneBits) (next : ℕ) → boneRest b s i ≡ fine v next → b ≡ v .base
-  bone-keeps v next e =
-      let curves = came (block 16 s i) _ v next e in
-      let pose = came (poseBits s (curves .at)) _ v next (curves .rest) in
-      let physics = came (bool s (pose .at)) _ v next (pose .rest) in
-      let selected = came (bool s (physics .at)) _ v next (physics .rest) in
-      ap (λ (v : BoneBits). v .base) (same-value (selected .rest))
+  bone-keeps v next e = bone-rest s b i i v next refl e .0
 
   morph-keeps : (v : MorphBits) (next : ℕ) → morphRest b s i ≡ fine v next → b ≡ v .base
-  morph-keeps v next e =
-      let weight = came (u32 s i) _ v next e in
-      let selected = came (bool s (weight .at)) _ v next (weight .rest) in
-      ap (λ (v : MorphBits). v .base) (same-value (selected .rest))
+  morph-keeps v next e = morph-rest s b i i v next refl e .0
 
   model-keeps : (c p : ℕ) (v : ModelBits) (next : ℕ) → modelRest c p b s i ≡ fine v next → b ≡ v .base
   model-keeps c p v next e =

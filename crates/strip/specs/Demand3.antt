@@ -1,5 +1,5 @@
--- Demand 3, word for word. Definitions only: what is to be proved, for the limits and the count's width of an edition; the proofs, for those whose
--- counts fit the width, are in proofs/Demand3.antt.
+-- Demand 3, word for word. Definitions only: what is to be proved, for the limits and the count's width of an edition; the proofs, for
+-- editions whose counts fit the width, are in proofs/Demand3.antt.
 use Prim.Native.Nat.{ℕ}
 use mathlib.Core.Path.{_≡_}
 use mathlib.Core.Logic.{_↔_}

@@ -9,14 +9,14 @@ ghost use Rattle.binary.specs.Items.{widths, RunSize, PlaceInRun};
 use crate::numbers::Skipped;
 
 // Items of one width, one behind the other.
-#[derive(Drop)]
+#[derive(Clone, Copy)]
 pub struct Run {
     pub times: u32,
     pub width: u8,
 }
 
 // A record's items in file order: the first, then the others as runs.
-#[derive(Drop)]
+#[derive(Clone, Copy)]
 pub struct Items {
     pub first: u8,
     pub run1: Run,

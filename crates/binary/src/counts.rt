@@ -7,7 +7,7 @@ use crate::numbers;
 use crate::numbers::ReadU32;
 
 // Why a call that reads a section gives no result (document 01, "Turned down"), with the offset where there is one.
-#[derive(Drop)]
+#[derive(Clone, Copy)]
 pub enum Refusal {
     // 1: a value does not fit in the bytes left.
     TooShort(usize),
@@ -22,7 +22,7 @@ pub enum Refusal {
 }
 
 // The count and the position behind it.
-#[derive(Drop)]
+#[derive(Clone, Copy)]
 pub enum ReadCount {
     Value(u32, usize),
     Refused(Refusal),

@@ -6,19 +6,19 @@ ghost use Rattle.binary.specs.Answers.{u32x3_read, u32x4_read};
 use crate::numbers;
 use crate::numbers::ReadU32;
 
-#[derive(Drop)]
+#[derive(Clone, Copy)]
 pub struct Bits3(pub u32, pub u32, pub u32);
 
-#[derive(Drop)]
+#[derive(Clone, Copy)]
 pub enum ReadBits3 {
     Value(Bits3, usize),
     Short(usize),
 }
 
-#[derive(Drop)]
+#[derive(Clone, Copy)]
 pub struct Bits4(pub u32, pub u32, pub u32, pub u32);
 
-#[derive(Drop)]
+#[derive(Clone, Copy)]
 pub enum ReadBits4 {
     Value(Bits4, usize),
     Short(usize),

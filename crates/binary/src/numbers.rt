@@ -15,38 +15,38 @@ ghost use Rattle.binary.specs.Answers.{
 };
 
 // The value and the position behind it, or the place of what does not fit.
-#[derive(Drop)]
+#[derive(Clone, Copy)]
 pub enum ReadU8 {
     Value(u8, usize),
     Short(usize),
 }
 
-#[derive(Drop)]
+#[derive(Clone, Copy)]
 pub enum ReadU32 {
     Value(u32, usize),
     Short(usize),
 }
 
-#[derive(Drop)]
+#[derive(Clone, Copy)]
 pub enum ReadI32 {
     Value(i32, usize),
     Short(usize),
 }
 
-#[derive(Drop)]
+#[derive(Clone, Copy)]
 pub enum ReadF32 {
     Value(f32, usize),
     Short(usize),
 }
 
-#[derive(Drop)]
+#[derive(Clone, Copy)]
 pub enum ReadBool {
     Value(bool, usize),
     Short(usize),
 }
 
 // The position behind what was skipped, or the place of what does not fit.
-#[derive(Drop)]
+#[derive(Clone, Copy)]
 pub enum Skipped {
     To(usize),
     Short(usize),

@@ -7,7 +7,7 @@ use crate::numbers;
 use crate::numbers::{ReadU8, Skipped};
 
 // Where a string's bytes start, how many there are and the position behind them, or the place of what does not fit.
-#[derive(Drop)]
+#[derive(Clone, Copy)]
 pub enum ReadString {
     Bytes {
         start: usize,

@@ -1,4 +1,5 @@
 // Document 01, "Sections by hand": the cases without a mark, run.
+#![tactic(auto)]
 use binary::counts::Refusal;
 use libc::STDOUT_FILENO;
 use tracks::camera::CameraKeyframe;

@@ -6,14 +6,14 @@ ghost use Rattle.chains.specs.Block.{Fits, links};
 use binary::numbers;
 use order::field::Field;
 
-#[derive(Drop)]
+#[derive(Clone, Copy)]
 pub enum Kind {
     Bone,
     Morph,
 }
 
 // The frames of the initial records, one a track, and the indices of the additional records: the first number of each.
-#[derive(Drop)]
+#[derive(Clone, Copy)]
 pub struct Block {
     pub kind: Kind,
     pub initials: Field,

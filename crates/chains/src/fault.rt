@@ -1,13 +1,13 @@
 // What a build meets.
 // "`BoneIndex` and `MorphIndex` number two kinds of track that are kept separate."
-#[derive(Drop)]
+#[derive(Clone, Copy)]
 pub struct BoneIndex(pub u32);
 
-#[derive(Drop)]
+#[derive(Clone, Copy)]
 pub struct MorphIndex(pub u32);
 
 // What a build meets first, if anything. Indices, links and frames are their 32 bits; specs/Fault.antt gives document 01's number and values.
-#[derive(Drop)]
+#[derive(Clone, Copy)]
 pub enum Fault {
     NegativeIndex(u32),
     IndexBelowCount(u32),
@@ -23,7 +23,7 @@ pub enum Fault {
     Disconnected(usize),
 }
 
-#[derive(Drop)]
+#[derive(Clone, Copy)]
 pub enum Met {
     Nothing,
     Refused(Fault),

@@ -11,7 +11,7 @@ use order::answer::Find;
 use order::search;
 
 // The position of the record, and its place in the slots.
-#[derive(Drop)]
+#[derive(Clone, Copy)]
 pub enum Found {
     At(usize, usize),
     Absent,

@@ -1,7 +1,7 @@
 // Where the next record of a chain may be found. The places of a chain's records in the slots, which are in the order of their indices, are
 // often at even distances, as in files that MMD writes. Then the place behind two of them is known before the link is read, and the
 // processor need not wait for it. It is a guess: nothing is promised of it, and `lookup` tests it.
-#[derive(Drop)]
+#[derive(Clone, Copy)]
 pub struct Near {
     pub last: usize,
     pub next: usize,

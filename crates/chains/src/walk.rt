@@ -10,7 +10,7 @@ use crate::block::Block;
 use crate::lookup::Found;
 use crate::{block, lookup, near};
 
-#[derive(Drop)]
+#[derive(Clone, Copy)]
 pub enum Walked {
     Ends(usize),
     Missing(u32),

@@ -14,7 +14,7 @@ use binary::numbers;
 use records::pose::Pose;
 
 // A group for each bit, in the order of the bits.
-#[derive(Drop)]
+#[derive(Clone, Copy)]
 pub struct BonePlain {
     pub translation: bool,
     pub orientation: bool,

@@ -19,7 +19,7 @@ use records::pose;
 use records::pose::{Pose, PoseBits};
 
 // Nothing against a pose, or 12 or 13; specs/Answers.antt gives the numbers.
-#[derive(Drop)]
+#[derive(Clone, Copy)]
 pub enum Asked {
     Fine,
     Translation,

@@ -5,7 +5,7 @@ use binary::numbers::{ReadU8, ReadU32, Skipped};
 use chains::block::Kind;
 
 // Where the walk stands and how many keys it has listed.
-#[derive(Drop)]
+#[derive(Clone, Copy)]
 pub struct Listed {
     pub at: usize,
     pub keys: usize,

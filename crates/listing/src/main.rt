@@ -1,5 +1,6 @@
 // Document 01, "Sections by hand": the listing program. It reads one model section from standard input and prints its counts, every
 // key of its strip and how many records are loose, or the number of the refusal.
+#![tactic(auto)]
 use libc::STDIN_FILENO;
 use lines::{list, say};
 

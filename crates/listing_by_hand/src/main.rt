@@ -1,4 +1,5 @@
 // Document 01, "Sections by hand": the cases, listed as the listing program lists them. Each listing stands under the case's name.
+#![tactic(auto)]
 use libc::STDOUT_FILENO;
 use lines::list;
 use sections_by_hand::{bones, empty, morphs};

@@ -13,19 +13,19 @@ use records::model::{PmmDocumentModelKeyframeSummary, ReadModelRecord};
 use records::morph::{PmmDocumentMorphKeyframeSummary, ReadMorph};
 use records::{bone, model, morph};
 
-#[derive(Drop)]
+#[derive(Clone, Copy)]
 pub enum BoneKeyframe {
     Read(PmmDocumentBoneKeyframeSummary),
     Refused(Refusal),
 }
 
-#[derive(Drop)]
+#[derive(Clone, Copy)]
 pub enum MorphKeyframe {
     Read(PmmDocumentMorphKeyframeSummary),
     Refused(Refusal),
 }
 
-#[derive(Drop)]
+#[derive(Clone, Copy)]
 pub enum ModelKeyframe {
     Read(PmmDocumentModelKeyframeSummary),
     Refused(Refusal),

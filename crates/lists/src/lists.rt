@@ -13,7 +13,7 @@ use section::model;
 use section::model::{Model, ReadModel};
 
 // The lists whose entries have fixed items.
-#[derive(Drop)]
+#[derive(Clone, Copy)]
 pub enum List {
     InitialBones,
     Bones,
@@ -28,7 +28,7 @@ pub enum List {
 }
 
 // How many entries there are, where the first stands, and the items of one.
-#[derive(Drop)]
+#[derive(Clone, Copy)]
 pub struct Entries {
     pub count: u32,
     pub offset: usize,
@@ -36,14 +36,14 @@ pub struct Entries {
 }
 
 // The section, and the offset of the entry.
-#[derive(Drop)]
+#[derive(Clone, Copy)]
 pub enum Located {
     At(Model, usize),
     Refused(Refusal),
 }
 
 // The offset of an entry.
-#[derive(Drop)]
+#[derive(Clone, Copy)]
 pub enum ReadEntry {
     At(usize),
     Refused(Refusal),

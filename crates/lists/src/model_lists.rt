@@ -15,40 +15,40 @@ use records::model::ReadModelRecord;
 use records::{items, model};
 
 // The counts of a section's constraints and outside parents.
-#[derive(Drop)]
+#[derive(Clone, Copy)]
 pub struct Sizes {
     pub constraints: u32,
     pub parents: u32,
 }
 
-#[derive(Drop)]
+#[derive(Clone, Copy)]
 pub enum ReadFlag {
     Read(bool, usize),
     Refused(Refusal),
 }
 
-#[derive(Drop)]
+#[derive(Clone, Copy)]
 pub struct PairBits(pub u32, pub u32);
 
-#[derive(Drop)]
+#[derive(Clone, Copy)]
 pub enum ReadPair {
     Read(PairBits, usize),
     Refused(Refusal),
 }
 
-#[derive(Drop)]
+#[derive(Clone, Copy)]
 pub struct PmmDocumentOutsideParentIndexSummary {
     pub parent_model_index: i32,
     pub parent_model_bone_index: i32,
 }
 
-#[derive(Drop)]
+#[derive(Clone, Copy)]
 pub enum ModelFlag {
     Read(bool),
     Refused(Refusal),
 }
 
-#[derive(Drop)]
+#[derive(Clone, Copy)]
 pub enum ModelPair {
     Read(PmmDocumentOutsideParentIndexSummary),
     Refused(Refusal),

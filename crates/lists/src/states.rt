@@ -15,27 +15,27 @@ use records::states::{
     PmmDocumentBoneStateSummary, PmmDocumentOutsideParentStateSummary, ReadBoneState,
 };
 
-#[derive(Drop)]
+#[derive(Clone, Copy)]
 pub enum BoneState {
     Read(PmmDocumentBoneStateSummary),
     Refused(Refusal),
 }
 
 // A morph's state is its weight.
-#[derive(Drop)]
+#[derive(Clone, Copy)]
 pub enum MorphState {
     Read(f32),
     Refused(Refusal),
 }
 
 // A constraint's state is whether it is enabled.
-#[derive(Drop)]
+#[derive(Clone, Copy)]
 pub enum ConstraintState {
     Read(bool),
     Refused(Refusal),
 }
 
-#[derive(Drop)]
+#[derive(Clone, Copy)]
 pub enum OutsideParentState {
     Read(PmmDocumentOutsideParentStateSummary),
     Refused(Refusal),

@@ -17,7 +17,7 @@ use section::model::{Model, ReadModel};
 use section::names::Names;
 
 // Which text: the model's name, its English name or its path, or a bone's or morph's name by its number.
-#[derive(Drop)]
+#[derive(Clone, Copy)]
 pub enum Text {
     Name,
     EnglishName,
@@ -27,7 +27,7 @@ pub enum Text {
 }
 
 // Where a text stands.
-#[derive(Drop)]
+#[derive(Clone, Copy)]
 pub enum TextSpan {
     At { offset: usize, length: usize },
     Refused(Refusal),

@@ -10,7 +10,7 @@ ghost use Rattle.marks.specs.Marks.{counts_of};
 use chains::block;
 use chains::block::Block;
 
-#[derive(Drop)]
+#[derive(Clone, Copy)]
 pub struct Counts {
     pub disconnected: usize,
     pub reached: usize,

@@ -13,7 +13,7 @@ use flags::bits;
 use track_keys::{key, ready};
 
 // How many links were followed, if nothing else was found.
-#[derive(Drop)]
+#[derive(Clone, Copy)]
 pub enum Rising {
     Links(usize),
     Otherwise,

@@ -9,7 +9,7 @@ use binary::numbers::ReadU32;
 use binary::{groups, numbers};
 
 // An initial record has no index: 0 stands here. The payload follows the base.
-#[derive(Drop)]
+#[derive(Clone, Copy)]
 pub struct BaseBits {
     pub index: u32,
     pub frame: u32,
@@ -18,20 +18,20 @@ pub struct BaseBits {
     pub payload_offset: usize,
 }
 
-#[derive(Drop)]
+#[derive(Clone, Copy)]
 pub enum ReadBase {
     Read(BaseBits, usize),
     Short(usize),
 }
 
 // The Rust's Option<i32>.
-#[derive(Drop)]
+#[derive(Clone, Copy)]
 pub enum KeyframeIndex {
     Absent,
     At(i32),
 }
 
-#[derive(Drop)]
+#[derive(Clone, Copy)]
 pub struct PmmDocumentBaseKeyframeSummary {
     pub index: KeyframeIndex,
     pub frame_index: i32,
@@ -40,7 +40,7 @@ pub struct PmmDocumentBaseKeyframeSummary {
 }
 
 // Where a record and its payload stand.
-#[derive(Drop)]
+#[derive(Clone, Copy)]
 pub struct Span {
     pub offset: usize,
     pub byte_length: usize,

@@ -9,7 +9,7 @@ use crate::{base, pose};
 use binary::numbers;
 use binary::numbers::{ReadBool, Skipped};
 
-#[derive(Drop)]
+#[derive(Clone, Copy)]
 pub struct BoneBits {
     pub base: BaseBits,
     pub pose: PoseBits,
@@ -17,14 +17,14 @@ pub struct BoneBits {
     pub selected: bool,
 }
 
-#[derive(Drop)]
+#[derive(Clone, Copy)]
 pub enum ReadBone {
     Read(BoneBits, usize),
     Short(usize),
 }
 
 // The interpolation is answered beside the summary, as an array.
-#[derive(Drop)]
+#[derive(Clone, Copy)]
 pub struct PmmDocumentBoneKeyframeSummary {
     pub base: PmmDocumentBaseKeyframeSummary,
     pub pose: Pose,

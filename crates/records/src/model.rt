@@ -11,7 +11,7 @@ use crate::{base, items};
 use binary::numbers::{ReadBool, Skipped};
 use binary::{blocks, numbers};
 
-#[derive(Drop)]
+#[derive(Clone, Copy)]
 pub struct ModelBits {
     pub base: BaseBits,
     pub visible: bool,
@@ -21,13 +21,13 @@ pub struct ModelBits {
     pub self_shadow_enabled_offset: usize,
 }
 
-#[derive(Drop)]
+#[derive(Clone, Copy)]
 pub enum ReadModelRecord {
     Read(ModelBits, usize),
     Short(usize),
 }
 
-#[derive(Drop)]
+#[derive(Clone, Copy)]
 pub struct PmmDocumentModelKeyframeSummary {
     pub base: PmmDocumentBaseKeyframeSummary,
     pub visible: bool,

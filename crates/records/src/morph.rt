@@ -8,20 +8,20 @@ use crate::base::{BaseBits, PmmDocumentBaseKeyframeSummary, ReadBase, Span};
 use binary::numbers;
 use binary::numbers::{ReadBool, ReadU32};
 
-#[derive(Drop)]
+#[derive(Clone, Copy)]
 pub struct MorphBits {
     pub base: BaseBits,
     pub weight: u32,
     pub selected: bool,
 }
 
-#[derive(Drop)]
+#[derive(Clone, Copy)]
 pub enum ReadMorph {
     Read(MorphBits, usize),
     Short(usize),
 }
 
-#[derive(Drop)]
+#[derive(Clone, Copy)]
 pub struct PmmDocumentMorphKeyframeSummary {
     pub base: PmmDocumentBaseKeyframeSummary,
     pub weight: f32,

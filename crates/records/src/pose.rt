@@ -6,19 +6,19 @@ ghost use Rattle.records.specs.Answers.{pose_read};
 use binary::groups::{Bits3, Bits4, ReadBits3, ReadBits4};
 use binary::{groups, numbers};
 
-#[derive(Drop)]
+#[derive(Clone, Copy)]
 pub struct PoseBits {
     pub translation: Bits3,
     pub orientation: Bits4,
 }
 
-#[derive(Drop)]
+#[derive(Clone, Copy)]
 pub enum ReadPose {
     Read(PoseBits, usize),
     Short(usize),
 }
 
-#[derive(Drop)]
+#[derive(Clone, Copy)]
 pub struct Pose {
     pub translation_x: f32,
     pub translation_y: f32,

@@ -9,7 +9,7 @@ use binary::groups::Bits4;
 use binary::numbers;
 use binary::numbers::ReadBool;
 
-#[derive(Drop)]
+#[derive(Clone, Copy)]
 pub struct BoneStateBits {
     pub pose: PoseBits,
     pub dirty: bool,
@@ -17,13 +17,13 @@ pub struct BoneStateBits {
     pub selected: bool,
 }
 
-#[derive(Drop)]
+#[derive(Clone, Copy)]
 pub enum ReadBoneState {
     Read(BoneStateBits, usize),
     Short(usize),
 }
 
-#[derive(Drop)]
+#[derive(Clone, Copy)]
 pub struct PmmDocumentBoneStateSummary {
     pub pose: Pose,
     pub dirty: bool,
@@ -31,7 +31,7 @@ pub struct PmmDocumentBoneStateSummary {
     pub selected: bool,
 }
 
-#[derive(Drop)]
+#[derive(Clone, Copy)]
 pub struct PmmDocumentOutsideParentStateSummary {
     pub parent_model_index: i32,
     pub parent_model_bone_index: i32,

@@ -1,7 +1,7 @@
 // One check: a call, what it is lent, and what it must answer. oracle/README.md has the format.
 use vectors::fields;
 
-#[derive(Drop)]
+#[derive(Clone, Copy)]
 pub struct Check {
     pub call: u8,
     pub include_index: bool,

@@ -13,7 +13,7 @@ use binary::{blocks, numbers};
 use records::items;
 
 // The offset of each block of states.
-#[derive(Drop)]
+#[derive(Clone, Copy)]
 pub struct States {
     pub bones: usize,
     pub morphs: usize,
@@ -21,13 +21,13 @@ pub struct States {
     pub parents: usize,
 }
 
-#[derive(Drop)]
+#[derive(Clone, Copy)]
 pub enum ReadStates {
     Read(States, usize),
     Refused(Refusal),
 }
 
-#[derive(Drop)]
+#[derive(Clone, Copy)]
 pub struct Ending {
     pub blend_enabled: bool,
     pub edge_width: u32,
@@ -35,7 +35,7 @@ pub struct Ending {
     pub transform_order_index: u8,
 }
 
-#[derive(Drop)]
+#[derive(Clone, Copy)]
 pub enum ReadEnding {
     Read(Ending, usize),
     Refused(Refusal),

@@ -9,7 +9,7 @@ use binary::groups::{Bits4, ReadBits4};
 use binary::numbers::{ReadBool, ReadU8, ReadU32, Skipped};
 use binary::{groups, numbers};
 
-#[derive(Drop)]
+#[derive(Clone, Copy)]
 pub struct View {
     pub draw_order_index: u8,
     pub visible: bool,
@@ -17,19 +17,19 @@ pub struct View {
     pub selected_morphs: Bits4,
 }
 
-#[derive(Drop)]
+#[derive(Clone, Copy)]
 pub enum ReadView {
     Read(View, usize),
     Refused(Refusal),
 }
 
-#[derive(Drop)]
+#[derive(Clone, Copy)]
 pub struct Scroll {
     pub vertical_scroll: u32,
     pub last_frame: u32,
 }
 
-#[derive(Drop)]
+#[derive(Clone, Copy)]
 pub enum ReadScroll {
     Read(Scroll, usize),
     Refused(Refusal),

@@ -14,7 +14,7 @@ use binary::numbers::Skipped;
 use binary::{blocks, counts};
 use records::items;
 
-#[derive(Drop)]
+#[derive(Clone, Copy)]
 pub struct Keyframes {
     pub initial_offset: usize,
     pub count_offset: usize,
@@ -23,20 +23,20 @@ pub struct Keyframes {
     pub count: u32,
 }
 
-#[derive(Drop)]
+#[derive(Clone, Copy)]
 pub enum ReadKeyframes {
     Read(Keyframes, usize),
     Refused(Refusal),
 }
 
-#[derive(Drop)]
+#[derive(Clone, Copy)]
 pub struct KeyframeBlocks {
     pub bones: Keyframes,
     pub morphs: Keyframes,
     pub models: Keyframes,
 }
 
-#[derive(Drop)]
+#[derive(Clone, Copy)]
 pub enum ReadKeyframeBlocks {
     Read(KeyframeBlocks, usize),
     Refused(Refusal),

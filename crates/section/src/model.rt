@@ -13,7 +13,7 @@ use crate::{closing, display, keyframes, names, opening};
 use binary::counts::Refusal;
 
 // All that stands before the records.
-#[derive(Drop)]
+#[derive(Clone, Copy)]
 pub struct Front {
     pub opening: Opening,
     pub counts: Counts,
@@ -21,13 +21,13 @@ pub struct Front {
     pub scroll: Scroll,
 }
 
-#[derive(Drop)]
+#[derive(Clone, Copy)]
 pub enum ReadFront {
     Read(Front, usize),
     Refused(Refusal),
 }
 
-#[derive(Drop)]
+#[derive(Clone, Copy)]
 pub struct Model {
     pub front: Front,
     pub keyframes: KeyframeBlocks,
@@ -35,7 +35,7 @@ pub struct Model {
     pub ending: Ending,
 }
 
-#[derive(Drop)]
+#[derive(Clone, Copy)]
 pub enum ReadModel {
     Read(Model, usize),
     Refused(Refusal),

@@ -10,19 +10,19 @@ use binary::numbers::Skipped;
 use binary::{counts, numbers, strings};
 
 // How many names there are, and the first one's offset.
-#[derive(Drop)]
+#[derive(Clone, Copy)]
 pub struct Names {
     pub count: u32,
     pub offset: usize,
 }
 
-#[derive(Drop)]
+#[derive(Clone, Copy)]
 pub enum ReadNames {
     Read(Names, usize),
     Refused(Refusal),
 }
 
-#[derive(Drop)]
+#[derive(Clone, Copy)]
 pub struct Counts {
     pub bones: Names,
     pub morphs: Names,
@@ -30,7 +30,7 @@ pub struct Counts {
     pub parents: u32,
 }
 
-#[derive(Drop)]
+#[derive(Clone, Copy)]
 pub enum ReadCounts {
     Read(Counts, usize),
     Refused(Refusal),

@@ -8,7 +8,7 @@ use binary::numbers::{ReadU8, Skipped};
 use binary::strings::ReadString;
 use binary::{numbers, strings};
 
-#[derive(Drop)]
+#[derive(Clone, Copy)]
 pub struct Opening {
     pub document_model_index: u8,
     pub name_offset: usize,
@@ -16,7 +16,7 @@ pub struct Opening {
     pub path_offset: usize,
 }
 
-#[derive(Drop)]
+#[derive(Clone, Copy)]
 pub enum ReadOpening {
     Read(Opening, usize),
     Refused(Refusal),

@@ -10,7 +10,7 @@ use binary::counts::Refusal;
 use binary::groups::Bits4;
 use binary::numbers;
 
-#[derive(Drop)]
+#[derive(Clone, Copy)]
 pub struct PmmDocumentModelSections {
     pub initial_bone_keyframes_offset: usize,
     pub bone_keyframe_count_offset: usize,
@@ -30,10 +30,10 @@ pub struct PmmDocumentModelSections {
     pub outside_parent_states_offset: usize,
 }
 
-#[derive(Drop)]
+#[derive(Clone, Copy)]
 pub struct SelectedMorphIndices(pub i32, pub i32, pub i32, pub i32);
 
-#[derive(Drop)]
+#[derive(Clone, Copy)]
 pub struct PmmDocumentModelSummary {
     pub document_model_index: u8,
     pub offset: usize,
@@ -62,7 +62,7 @@ pub struct PmmDocumentModelSummary {
     pub self_shadow_enabled: bool,
 }
 
-#[derive(Drop)]
+#[derive(Clone, Copy)]
 pub enum ModelSummary {
     Read(PmmDocumentModelSummary),
     Refused(Refusal),

@@ -1,5 +1,6 @@
 // Shows a model section: its counts and offsets, its name, English name and path, every bone's and morph's name, and the payload of
 // every record, bytes in hexadecimal. The section is the file `section`, from its fourth byte on.
+#![tactic(auto)]
 ghost use Rattle.std.specs.Prelude.{◌≤◌, length};
 
 use binary::counts::Refusal;

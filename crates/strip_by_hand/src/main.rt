@@ -1,5 +1,6 @@
 // Document 01, "Sections by hand": the cases of the strip call, run. Each line has the answer, the two work slices and the output
 // afterwards. Before the call every place of the work slices is 7 and every byte of the output ee.
+#![tactic(auto)]
 mod say;
 
 use sections_by_hand::{bones, empty};

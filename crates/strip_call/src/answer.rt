@@ -3,21 +3,21 @@ use binary::counts::Refusal;
 use chains::fault::Fault;
 
 // What the build of one kind meets, or how many links were followed and how many records are loose.
-#[derive(Drop)]
+#[derive(Clone, Copy)]
 pub enum BuiltKind {
     Refused(Fault),
     Counted(usize, usize),
 }
 
 // The same for the whole clip; a fault is told with the number of its kind's tracks.
-#[derive(Drop)]
+#[derive(Clone, Copy)]
 pub enum BuiltClip {
     Bones(usize, Fault),
     Morphs(usize, Fault),
     Counted(usize, usize),
 }
 
-#[derive(Drop)]
+#[derive(Clone, Copy)]
 pub enum StripRefusal {
     Reading(Refusal),
     Bones(usize, Fault),
@@ -27,7 +27,7 @@ pub enum StripRefusal {
 }
 
 // The strip's length, the links followed and the loose records.
-#[derive(Drop)]
+#[derive(Clone, Copy)]
 pub enum Strip {
     Built(usize, usize, usize),
     Refused(StripRefusal),

@@ -1,4 +1,5 @@
 // The strip call of document 01 for C.
+#![tactic(auto)]
 pub mod call;
 mod faults;
 mod values;

@@ -2,14 +2,14 @@
 use vectors::fields;
 
 // A slice that is lent.
-#[derive(Drop)]
+#[derive(Clone, Copy)]
 pub struct Lent {
     pub room: usize,
     // How many of its places hold what stands in the checks; those behind stay as they were.
     pub held: usize,
 }
 
-#[derive(Drop)]
+#[derive(Clone, Copy)]
 pub struct Check {
     // 0 or a refusal's number.
     pub returned: usize,
@@ -20,7 +20,7 @@ pub struct Check {
 }
 
 // Where the places held of each slice stand in the checks, and the next check.
-#[derive(Drop)]
+#[derive(Clone, Copy)]
 pub struct Offsets {
     pub first: usize,
     pub second: usize,

@@ -15,7 +15,7 @@ use chains::{block, lookup, near};
 use flags::bits;
 
 // The least and the greatest of some frames.
-#[derive(Drop)]
+#[derive(Clone, Copy)]
 pub struct Span {
     pub least: u32,
     pub greatest: u32,

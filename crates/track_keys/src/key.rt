@@ -15,7 +15,7 @@ use keys::pose;
 use keys::pose::Asked;
 
 // Document 01: a morph key is answered as its frame and weight, or as the refusal that it met.
-#[derive(Drop)]
+#[derive(Clone, Copy)]
 pub enum MorphKey {
     Key(u32, f32),
     Refused(Fault),

@@ -13,7 +13,7 @@ use chains::walk::Walked;
 use chains::{block, walk};
 
 // How many records the chain has, and the number of the first key whose frame is repeated.
-#[derive(Drop)]
+#[derive(Clone, Copy)]
 pub enum Ready {
     Keys(usize, usize),
     Refused(Fault),

@@ -17,7 +17,7 @@ use lists::parts;
 use records::base;
 use records::base::{BaseBits, PmmDocumentBaseKeyframeSummary, ReadBase, Span};
 
-#[derive(Drop)]
+#[derive(Clone, Copy)]
 pub struct ViewBits {
     pub distance: u32,
     pub look_at: Bits3,
@@ -26,41 +26,41 @@ pub struct ViewBits {
     pub parent_bone: u32,
 }
 
-#[derive(Drop)]
+#[derive(Clone, Copy)]
 pub enum ReadView {
     Read(ViewBits, usize),
     Short(usize),
 }
 
 // The perspective view is on when its byte is 0.
-#[derive(Drop)]
+#[derive(Clone, Copy)]
 pub struct LensBits {
     pub perspective_byte: bool,
     pub fov: u32,
     pub selected: bool,
 }
 
-#[derive(Drop)]
+#[derive(Clone, Copy)]
 pub enum ReadLens {
     Read(LensBits, usize),
     Short(usize),
 }
 
-#[derive(Drop)]
+#[derive(Clone, Copy)]
 pub struct CameraBits {
     pub base: BaseBits,
     pub view: ViewBits,
     pub lens: LensBits,
 }
 
-#[derive(Drop)]
+#[derive(Clone, Copy)]
 pub enum ReadCamera {
     Read(CameraBits, usize),
     Short(usize),
 }
 
 // Where each field stands.
-#[derive(Drop)]
+#[derive(Clone, Copy)]
 pub struct CameraOffsets {
     pub distance_offset: usize,
     pub look_at_offset: usize,
@@ -77,7 +77,7 @@ pub struct CameraOffsets {
 }
 
 // The interpolation's 24 bytes are handed back as a part.
-#[derive(Drop)]
+#[derive(Clone, Copy)]
 pub struct CameraKeyframeSummary {
     pub base: PmmDocumentBaseKeyframeSummary,
     pub distance: f32,
@@ -92,7 +92,7 @@ pub struct CameraKeyframeSummary {
     pub span: Span,
 }
 
-#[derive(Drop)]
+#[derive(Clone, Copy)]
 pub enum CameraKeyframe {
     Read(CameraKeyframeSummary),
     Refused(Refusal),

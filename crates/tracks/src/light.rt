@@ -16,7 +16,7 @@ use lists::parts;
 use records::base;
 use records::base::{BaseBits, PmmDocumentBaseKeyframeSummary, ReadBase, Span};
 
-#[derive(Drop)]
+#[derive(Clone, Copy)]
 pub struct LightBits {
     pub base: BaseBits,
     pub color: Bits3,
@@ -24,13 +24,13 @@ pub struct LightBits {
     pub selected: bool,
 }
 
-#[derive(Drop)]
+#[derive(Clone, Copy)]
 pub enum ReadLight {
     Read(LightBits, usize),
     Short(usize),
 }
 
-#[derive(Drop)]
+#[derive(Clone, Copy)]
 pub struct LightKeyframeSummary {
     pub base: PmmDocumentBaseKeyframeSummary,
     pub color: Vector,
@@ -44,7 +44,7 @@ pub struct LightKeyframeSummary {
     pub span: Span,
 }
 
-#[derive(Drop)]
+#[derive(Clone, Copy)]
 pub enum LightKeyframe {
     Read(LightKeyframeSummary),
     Refused(Refusal),

@@ -20,26 +20,26 @@ use lists::lists::{Entries, ReadEntry};
 use section::keyframes;
 use section::keyframes::{Keyframes, ReadKeyframes};
 
-#[derive(Drop)]
+#[derive(Clone, Copy)]
 pub enum Kind {
     Camera,
     Light,
 }
 
-#[derive(Drop)]
+#[derive(Clone, Copy)]
 pub struct Track {
     pub keyframes: Keyframes,
     pub state_offset: usize,
 }
 
-#[derive(Drop)]
+#[derive(Clone, Copy)]
 pub enum ReadTrack {
     Read(Track, usize),
     Refused(Refusal),
 }
 
 // The Rust's summary of a camera or light section; its records are answered by number.
-#[derive(Drop)]
+#[derive(Clone, Copy)]
 pub struct PmmDocumentTrackSummary {
     pub offset: usize,
     pub offset_end: usize,
@@ -52,14 +52,14 @@ pub struct PmmDocumentTrackSummary {
     pub state_end_offset: usize,
 }
 
-#[derive(Drop)]
+#[derive(Clone, Copy)]
 pub enum TrackSummary {
     Read(PmmDocumentTrackSummary),
     Refused(Refusal),
 }
 
 // The section, and the offset of a record of it.
-#[derive(Drop)]
+#[derive(Clone, Copy)]
 pub enum Located {
     At(Track, usize),
     Refused(Refusal),

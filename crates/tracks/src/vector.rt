@@ -5,7 +5,7 @@ ghost use Rattle.tracks.specs.Vector.{vector_of};
 use binary::groups::Bits3;
 use binary::numbers;
 
-#[derive(Drop)]
+#[derive(Clone, Copy)]
 pub struct Vector {
     pub x: f32,
     pub y: f32,

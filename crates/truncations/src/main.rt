@@ -1,5 +1,6 @@
 // Reads every truncation of one model section and compares each place of refusal 1 with the widths of the section's items, which
 // come from oracle/truncations.py and from no reader.
+#![tactic(auto)]
 ghost use Rattle.std.specs.Prelude.{◌≤◌, length};
 
 use binary::counts::Refusal;

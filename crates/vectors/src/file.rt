@@ -3,7 +3,7 @@ use crate::{fields, tally};
 use libc::STDOUT_FILENO;
 
 // The section that stands in the space lent for it, and its check that comes next.
-#[derive(Drop)]
+#[derive(Clone, Copy)]
 pub struct Place {
     // Whether there is no section left.
     pub ended: bool,

@@ -16,7 +16,7 @@ use chains::near::Near;
 use chains::{block, lookup, near};
 
 // Where a record stands in the section, and in the slots.
-#[derive(Drop)]
+#[derive(Clone, Copy)]
 struct Standing {
     position: usize,
     place: usize,
@@ -61,7 +61,7 @@ pub fn measure(s: &[u8], b: Block, slots: &[u16], track: usize) -> usize
 }
 
 // How many records were written, and where their keys end.
-#[derive(Drop)]
+#[derive(Clone, Copy)]
 pub struct Written {
     pub records: usize,
     pub end: usize,

@@ -7,8 +7,7 @@ use mir.Syntax.{w32}
 use mir.Val.{SFits, to_z, of_z, bits}
 use mir.ValLaws.{to_z_pos, to_z-neg, to_z-of_z}
 use borrow.Author.Rules.{rules}
-use Rattle.binary.proofs.numbers.signed.Statement.{statement}
-use Rattle.binary.proofs.numbers.signed.Tie as tie
+use Rattle.binary.proofs.numbers.signed.Goals as goal
 
 below-minus-one : (m : ℕ) → negsuc 0 -ℤ pos m ≡ negsuc m
 below-minus-one zero = refl
@@ -26,24 +25,8 @@ module _ (b : ℕ) (fits : b < 4294967296) (high : 2147483648 ≤ b) where
       let back : 2 ^ bits w32 - suc (4294967295 - b) ≡ b = omega arith in
       to_z-of_z w32 _ rest-fits ∙ rest-is ∙ sym (to_z-neg w32 (4294967295 - b) (omega arith)) ∙ ap (to_z w32) back
 
-cast-result : tie.Need-overflow-cast-result
-cast-result c = search rules
+pub overflow_sub-result-else-bits-lt2147483648 : goal.overflow_sub-result-else-bits-lt2147483648
+overflow_sub-result-else-bits-lt2147483648 c = rest-fits c.args.bits (omega arith) (omega arith)
 
-sub-result : tie.Need-overflow-sub-result
-sub-result c = search rules
-
-cast-result-2 : tie.Need-overflow-cast-result-2
-cast-result-2 c = search rules
-
-sub-result-2 : tie.Need-overflow-sub-result-2
-sub-result-2 c = rest-fits c.before.args.bits (omega arith) (omega arith)
-
-returns : tie.Need-returns
-returns c = search rules
-
-returns-2 : tie.Need-returns-2
-returns-2 c = rest-right c.before.args.bits (omega arith) (omega arith)
-
-pub signed-spec : {M : Type 1} → statement M
-signed-spec =
-    tie.close (tie.spec cast-result sub-result cast-result-2 sub-result-2 returns returns-2)
+pub returns-else-bits-lt2147483648 : goal.returns-else-bits-lt2147483648
+returns-else-bits-lt2147483648 c = rest-right c.args.bits (omega arith) (omega arith)

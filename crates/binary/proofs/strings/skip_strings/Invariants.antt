@@ -1,0 +1,13 @@
+use mathlib.Core.Path.{◌≡◌, refl, sym, ap, ◌∙◌}
+use native.Mathlib.Omega.{arith}
+use borrow.Author.Rules.{rules}
+use Rattle.layout.specs.Walk.{string, times}
+use Rattle.layout.proofs.Steps.{times-turn, times-stop, times-done}
+use Rattle.binary.specs.Answers.{string_read}
+use Rattle.binary.proofs.strings.skip_strings.Given as goal
+
+abbrev pub invariant-loop-left : goal.invariant-loop-left
+invariant-loop-left l = times l.count string l.s l.at ≡ times l.left string l.s l.next
+
+abbrev pub decreases-loop-left : goal.decreases-loop-left
+decreases-loop-left l = l.left

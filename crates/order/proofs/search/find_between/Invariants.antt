@@ -1,0 +1,10 @@
+use Prim.Native.Nat.{◌+◌, ◌-◌, ◌/◌}
+use native.Mathlib.Omega.{arith}
+use Rattle.order.proofs.Between.{Bracket, bracket-start, bracket-up, bracket-down, bracket-found, bracket-absent}
+use Rattle.order.proofs.search.find_between.Given as goal
+
+abbrev pub invariant-loop-low : goal.invariant-loop-low
+invariant-loop-low l = Bracket l.s l.f l.slots l.number l.low l.high
+
+abbrev pub decreases-loop-low : goal.decreases-loop-low
+decreases-loop-low l = l.high - l.low

@@ -1,0 +1,13 @@
+-- `read_model` meets its contract: each return is where the walk goes on to or stops. Assumes nothing.
+use borrow.Author.Rules.{rules}
+use Rattle.section.proofs.Reading.{reading}
+use Rattle.section.specs.Model.{model_section}
+use Rattle.section.proofs.model.read_model.Goals as goal
+
+pub returns-then-s-gt16777215 : goal.returns-then-s-gt16777215
+unfolding model_section
+returns-then-s-gt16777215 c = search reading
+
+pub returns : goal.returns
+unfolding model_section
+returns c = search reading

@@ -1,0 +1,24 @@
+-- `write_curves` meets its contract: the rotation curve is written behind the others. Assumes nothing.
+use Rattle.keys.proofs.Placing.{room-front, room_back, wrote_then}
+use Rattle.keys.specs.Placed.{three_curves}
+use lib.ListN.{get_or}
+use mathlib.Core.List.{List, []}
+use mathlib.Core.Bool.{cond}
+use Prim.Native.Nat.{ℕ}
+use borrow.Author.Rules.{rules}
+use Rattle.keys.proofs.fields.write_curves.Goals as goal
+
+abbrev front : tie.Start → List ℕ
+front c = cond c.args.plain.curves [] (three_curves c.args.t2)
+
+abbrev back : tie.Start → List ℕ
+back c = cond c.args.plain.rotation [] (get_or c.args.t2 3 [])
+
+pub three_unless-next-requires : goal.three_unless-next-requires
+three_unless-next-requires c = room-front _ (front c.before.before.before) (back c.before.before.before) c.args.output.now c.requires
+
+pub curve_unless-requires : goal.curve_unless-requires
+curve_unless-requires c = room_back _ (front c.before.before.before.before.before.before.before) (back c.before.before.before.before.before.before.before) c.args.output.now c.requires _ _ c.three_unless-next.ensures
+
+pub returns : goal.returns
+returns c = wrote_then _ (front c.before.before.before.before.before.before.before.before.before.before) (back c.before.before.before.before.before.before.before.before.before.before) c.args.output.now c.requires _ _ c.three_unless-next.ensures _ _ c.curve_unless.ensures

@@ -1,0 +1,6 @@
+-- `plain_orientation` meets its contract. Assumes nothing.
+use borrow.Author.Rules.{rules}
+use Rattle.keys.proofs.plain.plain_orientation.Goals as goal
+
+pub returns : goal.returns
+returns c = rw c.zeros.ensures

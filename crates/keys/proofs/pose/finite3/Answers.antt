@@ -1,0 +1,6 @@
+-- `finite3` meets its contract. Assumes nothing.
+use borrow.Author.Rules.{rules}
+use Rattle.keys.proofs.pose.finite3.Goals as goal
+
+pub returns : goal.returns
+returns c = rw (c.finite.ensures, c.finite-2.ensures, c.finite-3.ensures)

@@ -1,0 +1,15 @@
+-- `model_keyframe` meets its contract: it stops at the place, in the entry, or nowhere. Assumes nothing.
+use mathlib.Core.Path.{refl}
+use Rattle.records.specs.Answers.{model_read}
+use Rattle.lists.proofs.Reading.{nth-unlocated, nth-short, nth_read}
+use borrow.Author.Rules.{rules}
+use Rattle.lists.proofs.keyframes.model_keyframe.Goals as goal
+
+pub returns-in-Refused : goal.returns-in-Refused
+returns-in-Refused c = nth-unlocated _ _ _ _ _ _ _ _ c.locate_model.ensures _ c.in-Refused.is
+
+pub returns-in-Short : goal.returns-in-Short
+returns-in-Short c = nth-short _ _ _ _ _ _ _ _ c.locate_model.ensures _ _ c.in-At.is model_read _ _ c.read_model_record.ensures c.in-Short.is _ refl
+
+pub returns-in-Read : goal.returns-in-Read
+returns-in-Read c = nth_read _ _ _ _ _ _ _ _ c.locate_model.ensures _ _ c.in-At.is model_read _ _ c.read_model_record.ensures c.in-Read.is _ _ _ refl c.model_summary.ensures

@@ -2,11 +2,11 @@
 use mathlib.Core.Path.{ap}
 use Rattle.lists.specs.Answers.{model_keyframe_read}
 use Rattle.lists.proofs.Handed.{payload-none, payload-some}
-use borrow.Author.Rules.{rules}
+use Rattle.records.specs.declared.model.PmmDocumentModelKeyframeSummary.{PmmDocumentModelKeyframeSummary}
 use Rattle.lists.proofs.parts.model_payload.Goals as goal
 
 pub returns-in-Refused : goal.returns-in-Refused
-returns-in-Refused c = payload-none _ _ _ _ c.model_keyframe.ensures _ (ap model_keyframe_read c.in-Refused.is)
+returns-in-Refused c = payload-none (λ (x : PmmDocumentModelKeyframeSummary). x.span) _ _ _ c.model_keyframe.ensures _ (ap model_keyframe_read c.in-Refused.is)
 
 pub returns-in-Read : goal.returns-in-Read
-returns-in-Read c = payload-some _ _ _ _ c.model_keyframe.ensures _ _ (ap model_keyframe_read c.in-Read.is) c.part.ensures
+returns-in-Read c = payload-some (λ (x : PmmDocumentModelKeyframeSummary). x.span) _ _ _ c.model_keyframe.ensures _ _ (ap model_keyframe_read c.in-Read.is) c.part.ensures

@@ -8,5 +8,5 @@ use Rattle.keys.proofs.curves.clamped.Goals as goal
 
 pub returns : goal.returns
 returns c =
-    let len : length c.args.t1 ≡ 4 = c.well-formed.0.1.0.1 in
-    rw (c.clamped_byte-a.ensures, c.clamped_byte-b.ensures, c.clamped_byte-c.ensures, c.clamped_byte-d.ensures) (ap clamped (four c.args.t1 len))
+    let len : length c.args.curve ≡ 4 = search rules in
+    rw (c.clamped_byte-a.ensures, c.clamped_byte-b.ensures, c.clamped_byte-c.ensures, c.clamped_byte-d.ensures) (ap clamped (four c.args.curve len))

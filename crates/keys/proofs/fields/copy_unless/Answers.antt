@@ -20,13 +20,13 @@ pub overflow_mul-result : goal.overflow_mul-result
 overflow_mul-result c =
     let long = length-bytes_at c.args.s.now c.args.from (4 * c.args.floats) in
     let room = room-kept c.args.plain c.args.place (bytes_at c.args.s.now c.args.from (4 * c.args.floats)) c.args.output.now c.if-plain.false c.requires.1 in
-    omega (arith, long, room, c.well-formed)
+    omega (arith, long, room)
 
 pub overflow_add-result : goal.overflow_add-result
 overflow_add-result c =
     let long = length-bytes_at c.args.s.now c.args.from (4 * c.args.floats) in
     let room = room-kept c.args.plain c.args.place (bytes_at c.args.s.now c.args.from (4 * c.args.floats)) c.args.output.now c.if-plain.false c.requires.1 in
-    omega (arith, long, room, c.well-formed)
+    omega (arith, long, room)
 
 pub returns : goal.returns
 returns c =

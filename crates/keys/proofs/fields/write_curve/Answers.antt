@@ -7,13 +7,13 @@ use borrow.Author.Rules.{rules}
 use Rattle.keys.proofs.fields.write_curve.Goals as goal
 
 pub bounds-output-place-2 : goal.bounds-output-place-2
-bounds-output-place-2 c = let len : length c.args.t1 ≡ 4 = c.well-formed.0.1.0.1 in simp length-set (omega arith)
+bounds-output-place-2 c = let len : length c.args.curve ≡ 4 = search rules in simp length-set (omega arith)
 
 pub bounds-output-place-3 : goal.bounds-output-place-3
-bounds-output-place-3 c = let len : length c.args.t1 ≡ 4 = c.well-formed.0.1.0.1 in simp length-set (omega arith)
+bounds-output-place-3 c = let len : length c.args.curve ≡ 4 = search rules in simp length-set (omega arith)
 
 pub bounds-output-place-4 : goal.bounds-output-place-4
-bounds-output-place-4 c = let len : length c.args.t1 ≡ 4 = c.well-formed.0.1.0.1 in simp length-set (omega arith)
+bounds-output-place-4 c = let len : length c.args.curve ≡ 4 = search rules in simp length-set (omega arith)
 
 pub returns : goal.returns
-returns c = curve-stored _ _ _ c.well-formed.0.1.0.1 c.requires
+returns c = curve-stored _ _ _ (search rules) c.requires

@@ -8,17 +8,11 @@ use Prim.Native.Nat.{ℕ}
 use borrow.Author.Rules.{rules}
 use Rattle.keys.proofs.fields.write_curves.Goals as goal
 
-abbrev front : tie.Start → List ℕ
-front c = cond c.args.plain.curves [] (three_curves c.args.t2)
-
-abbrev back : tie.Start → List ℕ
-back c = cond c.args.plain.rotation [] (get_or c.args.t2 3 [])
-
 pub three_unless-next-requires : goal.three_unless-next-requires
-three_unless-next-requires c = room-front _ (front c.before.before.before) (back c.before.before.before) c.args.output.now c.requires
+three_unless-next-requires c = room-front _ (cond c.args.plain.curves [] (three_curves c.args.curves)) (cond c.args.plain.rotation [] (get_or c.args.curves 3 [])) c.args.output.now c.requires
 
 pub curve_unless-requires : goal.curve_unless-requires
-curve_unless-requires c = room_back _ (front c.before.before.before.before.before.before.before) (back c.before.before.before.before.before.before.before) c.args.output.now c.requires _ _ c.three_unless-next.ensures
+curve_unless-requires c = room_back _ (cond c.args.plain.curves [] (three_curves c.args.curves)) (cond c.args.plain.rotation [] (get_or c.args.curves 3 [])) c.args.output.now c.requires _ _ c.three_unless-next.ensures
 
 pub returns : goal.returns
-returns c = wrote_then _ (front c.before.before.before.before.before.before.before.before.before.before) (back c.before.before.before.before.before.before.before.before.before.before) c.args.output.now c.requires _ _ c.three_unless-next.ensures _ _ c.curve_unless.ensures
+returns c = wrote_then _ (cond c.args.plain.curves [] (three_curves c.args.curves)) (cond c.args.plain.rotation [] (get_or c.args.curves 3 [])) c.args.output.now c.requires _ _ c.three_unless-next.ensures _ _ c.curve_unless.ensures

@@ -6,23 +6,14 @@ use Prim.Native.Nat.{ℕ}
 use borrow.Author.Rules.{rules}
 use Rattle.keys.proofs.fields.write_three.Goals as goal
 
-abbrev x : tie.Start → List ℕ
-x c = get_or c.args.t1 0 []
-
-abbrev y : tie.Start → List ℕ
-y c = get_or c.args.t1 1 []
-
-abbrev z : tie.Start → List ℕ
-z c = get_or c.args.t1 2 []
-
 pub write_curve-second-requires : goal.write_curve-second-requires
-write_curve-second-requires c = room-first _ (x c.before.before.before.before.before) (y c.before.before.before.before.before) (z c.before.before.before.before.before) c.args.output.now c.requires
+write_curve-second-requires c = room-first _ (get_or c.args.curves 0 []) (get_or c.args.curves 1 []) (get_or c.args.curves 2 []) c.args.output.now c.requires
 
 pub write_curve-third-requires : goal.write_curve-third-requires
-write_curve-third-requires c = room-second _ (x c.before.before.before.before.before.before.before.before.before) (y c.before.before.before.before.before.before.before.before.before) (z c.before.before.before.before.before.before.before.before.before) c.args.output.now c.requires _ _ c.write_curve-second.ensures
+write_curve-third-requires c = room-second _ (get_or c.args.curves 0 []) (get_or c.args.curves 1 []) (get_or c.args.curves 2 []) c.args.output.now c.requires _ _ c.write_curve-second.ensures
 
 pub write_curve-requires : goal.write_curve-requires
-write_curve-requires c = room-third _ (x c.before.before.before.before.before.before.before.before.before.before.before.before.before) (y c.before.before.before.before.before.before.before.before.before.before.before.before.before) (z c.before.before.before.before.before.before.before.before.before.before.before.before.before) c.args.output.now c.requires _ _ c.write_curve-second.ensures _ _ c.write_curve-third.ensures
+write_curve-requires c = room-third _ (get_or c.args.curves 0 []) (get_or c.args.curves 1 []) (get_or c.args.curves 2 []) c.args.output.now c.requires _ _ c.write_curve-second.ensures _ _ c.write_curve-third.ensures
 
 pub returns : goal.returns
-returns c = wrote-three _ (x c.before.before.before.before.before.before.before.before.before.before.before.before.before.before.before.before) (y c.before.before.before.before.before.before.before.before.before.before.before.before.before.before.before.before) (z c.before.before.before.before.before.before.before.before.before.before.before.before.before.before.before.before) c.args.output.now c.requires _ _ c.write_curve-second.ensures _ _ c.write_curve-third.ensures _ _ c.write_curve.ensures
+returns c = wrote-three _ (get_or c.args.curves 0 []) (get_or c.args.curves 1 []) (get_or c.args.curves 2 []) c.args.output.now c.requires _ _ c.write_curve-second.ensures _ _ c.write_curve-third.ensures _ _ c.write_curve.ensures

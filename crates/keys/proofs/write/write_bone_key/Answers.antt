@@ -10,34 +10,27 @@ use Prim.Native.Nat.{ℕ}
 use borrow.Author.Rules.{rules}
 use Rattle.keys.proofs.write.write_bone_key.Goals as goal
 
-abbrev old : tie.After-standing → List ℕ
-old c = c.before.before.before.before.args.output.now
-
-abbrev head : tie.After-standing → List ℕ
-head c = head_bytes c.before.before.before.before.args.frame c.standing.result
-
-abbrev pose : tie.After-standing → List ℕ
-pose c = pose_bytes c.before.bone-plain.result c.before.before.before.before.args.s.now c.before.before.before.before.args.at
-
-abbrev curves : tie.After-standing → List ℕ
-curves c = curve_bytes c.before.bone-plain.result (map clamped (curves_at c.before.before.before.before.args.s.now c.before.before.before.before.args.at))
-
-parts : (c : tie.After-standing) → head c ++ pose c ++ curves c ≡ bone_key_bytes c.before.before.before.before.args.s.now c.before.before.before.before.args.at c.before.before.before.before.args.frame
-parts c = bone-parts _ _ _ _ _ _ c.before.bone-plain.ensures refl c.standing.ensures
-
-room : (c : tie.After-standing) → Room c.before.before.before.before.args.place (head c ++ pose c ++ curves c) (old c)
-room c = rw (parts c) c.before.before.before.before.requires.1
-
 pub write_head-pose-requires : goal.write_head-pose-requires
-write_head-pose-requires c = room-first _ (head c.before) (pose c.before) (curves c.before) (old c.before) (room c.before)
+write_head-pose-requires c =
+    let parts : (head_bytes c.args.frame c.standing-map.result) ++ (pose_bytes c.bone_plain-plain.result c.args.s.now c.args.at) ++ (curve_bytes c.bone_plain-plain.result (map clamped (curves_at c.args.s.now c.args.at))) ≡ bone_key_bytes c.args.s.now c.args.at c.args.frame = bone-parts _ _ _ _ _ _ c.bone_plain-plain.ensures refl c.standing-map.ensures in
+    let room : Room c.args.place ((head_bytes c.args.frame c.standing-map.result) ++ (pose_bytes c.bone_plain-plain.result c.args.s.now c.args.at) ++ (curve_bytes c.bone_plain-plain.result (map clamped (curves_at c.args.s.now c.args.at)))) (c.args.output.now) = rw parts c.requires.1 in
+    room-first _ (head_bytes c.args.frame c.standing-map.result) (pose_bytes c.bone_plain-plain.result c.args.s.now c.args.at) (curve_bytes c.bone_plain-plain.result (map clamped (curves_at c.args.s.now c.args.at))) (c.args.output.now) room
 
 pub write_pose-next-requires : goal.write_pose-next-requires
-write_pose-next-requires c = (c.requires.0, room-second _ (head c.before.before.before.before.before) (pose c.before.before.before.before.before) (curves c.before.before.before.before.before) (old c.before.before.before.before.before) (room c.before.before.before.before.before) _ _ c.write_head-pose.ensures)
+write_pose-next-requires c =
+    let parts : (head_bytes c.args.frame c.standing-map.result) ++ (pose_bytes c.bone_plain-plain.result c.args.s.now c.args.at) ++ (curve_bytes c.bone_plain-plain.result (map clamped (curves_at c.args.s.now c.args.at))) ≡ bone_key_bytes c.args.s.now c.args.at c.args.frame = bone-parts _ _ _ _ _ _ c.bone_plain-plain.ensures refl c.standing-map.ensures in
+    let room : Room c.args.place ((head_bytes c.args.frame c.standing-map.result) ++ (pose_bytes c.bone_plain-plain.result c.args.s.now c.args.at) ++ (curve_bytes c.bone_plain-plain.result (map clamped (curves_at c.args.s.now c.args.at)))) (c.args.output.now) = rw parts c.requires.1 in
+    (c.requires.0, room-second _ (head_bytes c.args.frame c.standing-map.result) (pose_bytes c.bone_plain-plain.result c.args.s.now c.args.at) (curve_bytes c.bone_plain-plain.result (map clamped (curves_at c.args.s.now c.args.at))) (c.args.output.now) room _ _ c.write_head-pose.ensures)
 
 pub write_curves-requires : goal.write_curves-requires
-write_curves-requires c = (c.requires.0, room-third _ (head c.before.before.before.before.before.before.before.before.before) (pose c.before.before.before.before.before.before.before.before.before) (curves c.before.before.before.before.before.before.before.before.before) (old c.before.before.before.before.before.before.before.before.before) (room c.before.before.before.before.before.before.before.before.before) _ _ c.write_head-pose.ensures _ _ c.write_pose-next.ensures)
+write_curves-requires c =
+    let parts : (head_bytes c.args.frame c.standing-map.result) ++ (pose_bytes c.bone_plain-plain.result c.args.s.now c.args.at) ++ (curve_bytes c.bone_plain-plain.result (map clamped (curves_at c.args.s.now c.args.at))) ≡ bone_key_bytes c.args.s.now c.args.at c.args.frame = bone-parts _ _ _ _ _ _ c.bone_plain-plain.ensures refl c.standing-map.ensures in
+    let room : Room c.args.place ((head_bytes c.args.frame c.standing-map.result) ++ (pose_bytes c.bone_plain-plain.result c.args.s.now c.args.at) ++ (curve_bytes c.bone_plain-plain.result (map clamped (curves_at c.args.s.now c.args.at)))) (c.args.output.now) = rw parts c.requires.1 in
+    (c.requires.0, room-third _ (head_bytes c.args.frame c.standing-map.result) (pose_bytes c.bone_plain-plain.result c.args.s.now c.args.at) (curve_bytes c.bone_plain-plain.result (map clamped (curves_at c.args.s.now c.args.at))) (c.args.output.now) room _ _ c.write_head-pose.ensures _ _ c.write_pose-next.ensures)
 
 pub returns : goal.returns
 returns c =
-    rw (← parts c.before.before.before.before.before.before.before.before.before.before.before.before)
-    (wrote-three _ (head c.before.before.before.before.before.before.before.before.before.before.before.before) (pose c.before.before.before.before.before.before.before.before.before.before.before.before) (curves c.before.before.before.before.before.before.before.before.before.before.before.before) (old c.before.before.before.before.before.before.before.before.before.before.before.before) (room c.before.before.before.before.before.before.before.before.before.before.before.before) _ _ c.write_head-pose.ensures _ _ c.write_pose-next.ensures _ _ c.write_curves.ensures)
+    let parts : (head_bytes c.args.frame c.standing-map.result) ++ (pose_bytes c.bone_plain-plain.result c.args.s.now c.args.at) ++ (curve_bytes c.bone_plain-plain.result (map clamped (curves_at c.args.s.now c.args.at))) ≡ bone_key_bytes c.args.s.now c.args.at c.args.frame = bone-parts _ _ _ _ _ _ c.bone_plain-plain.ensures refl c.standing-map.ensures in
+    let room : Room c.args.place ((head_bytes c.args.frame c.standing-map.result) ++ (pose_bytes c.bone_plain-plain.result c.args.s.now c.args.at) ++ (curve_bytes c.bone_plain-plain.result (map clamped (curves_at c.args.s.now c.args.at)))) (c.args.output.now) = rw parts c.requires.1 in
+    rw (← parts)
+    (wrote-three _ (head_bytes c.args.frame c.standing-map.result) (pose_bytes c.bone_plain-plain.result c.args.s.now c.args.at) (curve_bytes c.bone_plain-plain.result (map clamped (curves_at c.args.s.now c.args.at))) (c.args.output.now) room _ _ c.write_head-pose.ensures _ _ c.write_pose-next.ensures _ _ c.write_curves.ensures)

@@ -8,7 +8,7 @@ pub write_u32-requires : goal.write_u32-requires
 write_u32-requires c = let fits = head-room c.args.output.now c.args.place c.args.frame c.args.map c.requires in omega arith
 
 pub bounds-output-place : goal.bounds-output-place
-bounds-output-place c = let fits = head-room c.args.output.now c.args.place c.args.frame c.args.map c.requires in omega (arith, c.write_u32.auto.0)
+bounds-output-place c = let fits = head-room c.args.output.now c.args.place c.args.frame c.args.map c.requires in omega (arith)
 
 pub returns : goal.returns
 returns c = head-wrote c.args.output.now c.args.place c.args.frame c.args.map _ c.requires c.write_u32.ensures

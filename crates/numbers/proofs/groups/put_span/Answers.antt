@@ -1,0 +1,8 @@
+-- `put_span` meets its contract. Assumes nothing.
+use Rattle.numbers.specs.Groups.{span}
+use borrow.Author.Rules.{rules}
+use Rattle.numbers.proofs.groups.put_span.Goals as goal
+
+pub returns : goal.returns
+unfolding span
+returns c = c.put_numbers.ensures

@@ -1,0 +1,18 @@
+-- `put_bone` meets its contract: each group is written behind the one before it. Assumes nothing.
+use mathlib.Core.Path.{refl}
+use Rattle.numbers.specs.Keyframes.{bone, bone_flags}
+use Rattle.numbers.specs.Groups.{base, pose}
+use Rattle.numbers.proofs.Putting.{behind}
+use borrow.Author.Rules.{rules}
+use Rattle.numbers.proofs.keyframes.put_bone.Goals as goal
+
+pub returns : goal.returns
+unfolding bone bone_flags base pose
+returns c =
+    behind _ _ _ _ _ _ _
+    (behind _ _ _ _ _ _ _
+    (behind _ _ _ _ _ _ _
+    c.put_base.ensures refl
+    c.put_pose.ensures) refl
+    c.put_bone_flags.ensures) refl
+    c.put_span.ensures

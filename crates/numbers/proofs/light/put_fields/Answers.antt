@@ -1,0 +1,12 @@
+-- `put_fields` meets its contract: each number is made by a call. Assumes nothing.
+use mathlib.Core.Path.{refl}
+use Rattle.numbers.specs.Tracks.{light_fields}
+use Rattle.numbers.proofs.Putting.{same, also}
+use borrow.Author.Rules.{rules}
+use Rattle.numbers.proofs.light.put_fields.Goals as goal
+
+pub returns : goal.returns
+unfolding light_fields
+returns c =
+    same _ _ _ _ _ c.put_numbers.ensures
+    (also _ _ _ _ c.flag.ensures refl)

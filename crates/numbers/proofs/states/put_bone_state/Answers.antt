@@ -1,0 +1,14 @@
+-- `put_bone_state` meets its contract: each group is written behind the one before it. Assumes nothing.
+use mathlib.Core.Path.{refl}
+use Rattle.numbers.specs.States.{bone_state}
+use Rattle.numbers.specs.Groups.{pose}
+use Rattle.numbers.proofs.Putting.{behind}
+use borrow.Author.Rules.{rules}
+use Rattle.numbers.proofs.states.put_bone_state.Goals as goal
+
+pub returns : goal.returns
+unfolding bone_state pose
+returns c =
+    behind _ _ _ _ _ _ _
+    c.put_pose.ensures refl
+    c.put_bone_state_flags.ensures

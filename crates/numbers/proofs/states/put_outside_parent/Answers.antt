@@ -1,0 +1,15 @@
+-- `put_outside_parent` meets its contract: each number is made by a call. Assumes nothing.
+use mathlib.Core.Path.{refl}
+use Rattle.numbers.specs.States.{outside_parent}
+use Rattle.numbers.proofs.Putting.{same, also, signed_is}
+use borrow.Author.Rules.{rules}
+use Rattle.numbers.proofs.states.put_outside_parent.Goals as goal
+
+pub returns : goal.returns
+unfolding outside_parent
+returns c =
+    same _ _ _ _ _ c.put_numbers.ensures
+    (also _ _ _ _ (signed_is _ c.args.p.parent_model_index c.struct_told-1.given.0.1 c.signed.ensures)
+    (also _ _ _ _ (signed_is _ c.args.p.parent_model_bone_index c.struct_told-2-1.given.1.0.1 c.signed-2.ensures)
+    (also _ _ _ _ (signed_is _ c.args.p.subject_bone_index c.struct_told-3-1.given.1.1.0.1 c.signed-3.ensures)
+    (also _ _ _ _ (signed_is _ c.args.p.target_model_index c.struct_told-4-1.given.1.1.1.0.1 c.signed-4.ensures) refl))))

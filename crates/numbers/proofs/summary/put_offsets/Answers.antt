@@ -1,0 +1,13 @@
+-- `put_offsets` meets its contract: each group is written behind the one before it. Assumes nothing.
+use mathlib.Core.Path.{refl}
+use Rattle.numbers.specs.Summary.{offsets, record_offsets}
+use Rattle.numbers.proofs.Putting.{behind}
+use borrow.Author.Rules.{rules}
+use Rattle.numbers.proofs.summary.put_offsets.Goals as goal
+
+pub returns : goal.returns
+unfolding offsets record_offsets
+returns c =
+    behind _ _ _ _ _ _ _
+    c.put_record_offsets.ensures refl
+    c.put_state_offsets.ensures

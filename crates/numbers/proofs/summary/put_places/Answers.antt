@@ -1,0 +1,8 @@
+-- `put_places` meets its contract. Assumes nothing.
+use Rattle.numbers.specs.Summary.{places}
+use borrow.Author.Rules.{rules}
+use Rattle.numbers.proofs.summary.put_places.Goals as goal
+
+pub returns : goal.returns
+unfolding places
+returns c = c.put_numbers.ensures

@@ -1,0 +1,13 @@
+-- `put_summary` meets its contract: each group is written behind the one before it. Assumes nothing.
+use mathlib.Core.Path.{refl}
+use Rattle.numbers.specs.Summary.{model_summary, scalars, places, view, selected, counts, ending}
+use Rattle.numbers.proofs.Putting.{behind}
+use borrow.Author.Rules.{rules}
+use Rattle.numbers.proofs.summary.put_summary.Goals as goal
+
+pub returns : goal.returns
+unfolding model_summary scalars places view selected counts ending
+returns c =
+    behind _ _ _ _ _ _ _
+    c.put_scalars.ensures refl
+    c.put_offsets.ensures

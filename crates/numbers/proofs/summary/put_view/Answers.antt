@@ -1,0 +1,14 @@
+-- `put_view` meets its contract: each number is made by a call. Assumes nothing.
+use mathlib.Core.Path.{refl}
+use Rattle.numbers.specs.Summary.{view}
+use Rattle.numbers.proofs.Putting.{same, also, signed_is}
+use borrow.Author.Rules.{rules}
+use Rattle.numbers.proofs.summary.put_view.Goals as goal
+
+pub returns : goal.returns
+unfolding view
+returns c =
+    same _ _ _ _ _ c.put_numbers.ensures
+    (also _ _ _ _ refl
+    (also _ _ _ _ refl
+    (also _ _ _ _ (signed_is _ c.args.s.selected_bone_index c.struct_told-1.given.1.1.1.1.1.1.1.1.1.1.0.1 c.signed.ensures) refl)))

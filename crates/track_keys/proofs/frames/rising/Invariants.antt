@@ -1,0 +1,18 @@
+use Prim.Native.Nat.{◌-◌}
+use native.Mathlib.Omega.{arith}
+use mathlib.Core.Path.{◌≡◌, subst}
+use borrow.Author.Rules.{rules}
+use lib.ListN.{take}
+use Rattle.chains.specs.Block.{links}
+use Rattle.track_keys.specs.Tracks.{frames_of}
+use Rattle.track_keys.specs.Frames.{Rising}
+use Rattle.track_keys.proofs.ListedChain.{listed_below}
+use Rattle.track_keys.proofs.ChainFrames.{rising-record}
+use Rattle.track_keys.proofs.FirstRepeats.{rising-starts}
+use Rattle.track_keys.proofs.frames.rising.Given as goal
+
+abbrev pub invariant-loop-i : goal.invariant-loop-i
+invariant-loop-i l = (l.last ≡ frames_of (links l.s l.b) l.track (take l.n l.list) l.i) × Rising (frames_of (links l.s l.b) l.track (take l.n l.list)) l.n l.i
+
+abbrev pub decreases-loop-i : goal.decreases-loop-i
+decreases-loop-i l = l.n - l.i

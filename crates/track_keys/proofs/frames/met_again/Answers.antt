@@ -4,6 +4,7 @@ use native.Mathlib.Omega.{arith}
 use mathlib.Core.Path.{◌∙◌, ap}
 use borrow.Author.Rules.{rules}
 use lib.ListN.{length}
+use mathlib.Core.Bool.{not}
 use Rattle.track_keys.proofs.Followed.{follow-none, follow-absent, follow-below}
 use Rattle.track_keys.proofs.Again.{Again, again-starts, again-rise, again-long, again-first, again-met, again-more}
 use Rattle.track_keys.proofs.ChainFrames.{frame-field, held_below, held-once, held-apart}
@@ -16,7 +17,7 @@ pub shape_of-list-then-not-repeats : goal.shape_of-list-then-not-repeats
 shape_of-list-then-not-repeats c = c.repeats.ensures.sorted.length
 
 pub returns-then-not-repeats : goal.returns-then-not-repeats
-returns-then-not-repeats c = held-apart c.requires.ends c.requires.list_value c.first_frame-first.ensures c.repeats.result c.repeats.ensures.repeats c.if-not-repeats.true
+returns-then-not-repeats c = held-apart c.requires.ends c.requires.list_value c.first_frame-first.ensures c.repeats.result c.repeats.ensures.repeats (ap not c.if-not-repeats.true)
 
 pub first_link-link-requires : goal.first_link-link-requires
 first_link-link-requires c = record { fits = c.requires.ends.ordered.fits; track_lt_count = c.requires.ends.is-track }

@@ -19,54 +19,48 @@ make_ready-requires c = record { ordered = c.requires.ordered; track_lt_count = 
 
 pub loop-i-init : goal.loop-i-init
 loop-i-init c =
-    let as_long : length (c.make_ready.new.list) ≡ length c.args.list.now = c.make_ready.ensures.list_len_unchanged ∙ c.tracks.inv.same in
-    let ready : Ready-track (c c).args.s.now (c c).args.b (c c).args.slots.now (c c).tracks.track (c.make_ready.new.list) (c.in-Keys.n) c.in-Keys.again = let wide = (c c).pre.1 in
-    record {
-      ordered = (c c).pre.0;
+    let as_long : length (c.make_ready.new.list) ≡ length c.args.list.now = c.make_ready.ensures.list_len_unchanged ∙ c.tracks.invariant.same in
+    let ready : Ready-track c.args.s.now c.args.b c.args.slots.now c.tracks.track (c.make_ready.new.list) (c.in-Keys.n) c.in-Keys.again = record {
+      ordered = c.requires.ordered;
       is-track = c.tracks-test.true;
       room = omega (arith, as_long);
       keys = keyed _ _ _ _ _ c.make_ready.ensures.readies _ _ c.in-Keys.is;
     } in
-    asking ready (c (c c.before)).tracks.inv.nothing
+    asking ready c.tracks.invariant.nothing
 
 pub offset_bounds-list-i : goal.offset_bounds-list-i
 offset_bounds-list-i c =
-    let as_long : length (c.make_ready.new.list) ≡ length c.args.list.now = c.make_ready.ensures.list_len_unchanged ∙ c.tracks.inv.same in
-    let ready : Ready-track (c c).args.s.now (c c).args.b (c c).args.slots.now (c c).tracks.track (c.make_ready.new.list) (c.in-Keys.n) c.in-Keys.again = let wide = (c c).pre.1 in
-    record {
-      ordered = (c c).pre.0;
+    let as_long : length (c.make_ready.new.list) ≡ length c.args.list.now = c.make_ready.ensures.list_len_unchanged ∙ c.tracks.invariant.same in
+    let ready : Ready-track c.args.s.now c.args.b c.args.slots.now c.tracks.track (c.make_ready.new.list) (c.in-Keys.n) c.in-Keys.again = record {
+      ordered = c.requires.ordered;
       is-track = c.tracks-test.true;
       room = omega (arith, as_long);
       keys = keyed _ _ _ _ _ c.make_ready.ensures.readies _ _ c.in-Keys.is;
     } in
     let few : ((c.in-Keys.n) ≤ 65534) × ((c.in-Keys.n) ≤ length (c.make_ready.new.list)) = let many = ready.keys.many in
     let room = ready.room in
-    let most = (c c).pre.0.fits.few_records in
     (omega arith, omega arith) in
     omega (arith, few.0)
 
 pub bounds-list-i : goal.bounds-list-i
 bounds-list-i c =
-    let as_long : length (c.make_ready.new.list) ≡ length c.args.list.now = c.make_ready.ensures.list_len_unchanged ∙ c.tracks.inv.same in
-    let ready : Ready-track (c c).args.s.now (c c).args.b (c c).args.slots.now (c c).tracks.track (c.make_ready.new.list) (c.in-Keys.n) c.in-Keys.again = let wide = (c c).pre.1 in
-    record {
-      ordered = (c c).pre.0;
+    let as_long : length (c.make_ready.new.list) ≡ length c.args.list.now = c.make_ready.ensures.list_len_unchanged ∙ c.tracks.invariant.same in
+    let ready : Ready-track c.args.s.now c.args.b c.args.slots.now c.tracks.track (c.make_ready.new.list) (c.in-Keys.n) c.in-Keys.again = record {
+      ordered = c.requires.ordered;
       is-track = c.tracks-test.true;
       room = omega (arith, as_long);
       keys = keyed _ _ _ _ _ c.make_ready.ensures.readies _ _ c.in-Keys.is;
     } in
     let few : ((c.in-Keys.n) ≤ 65534) × ((c.in-Keys.n) ≤ length (c.make_ready.new.list)) = let many = ready.keys.many in
     let room = ready.room in
-    let most = (c c).pre.0.fits.few_records in
     (omega arith, omega arith) in
     omega (arith, few.1)
 
 pub overflow_cast-list : goal.overflow_cast-list
 overflow_cast-list c =
-    let as_long : length (c.make_ready.new.list) ≡ length c.args.list.now = c.make_ready.ensures.list_len_unchanged ∙ c.tracks.inv.same in
-    let ready : Ready-track (c c).args.s.now (c c).args.b (c c).args.slots.now (c c).tracks.track (c.make_ready.new.list) (c.in-Keys.n) c.in-Keys.again = let wide = (c c).pre.1 in
-    record {
-      ordered = (c c).pre.0;
+    let as_long : length (c.make_ready.new.list) ≡ length c.args.list.now = c.make_ready.ensures.list_len_unchanged ∙ c.tracks.invariant.same in
+    let ready : Ready-track c.args.s.now c.args.b c.args.slots.now c.tracks.track (c.make_ready.new.list) (c.in-Keys.n) c.in-Keys.again = record {
+      ordered = c.requires.ordered;
       is-track = c.tracks-test.true;
       room = omega (arith, as_long);
       keys = keyed _ _ _ _ _ c.make_ready.ensures.readies _ _ c.in-Keys.is;
@@ -78,69 +72,49 @@ overflow_cast-list c =
 
 pub overflow_add-i : goal.overflow_add-i
 overflow_add-i c =
-    let as_long : length (c.make_ready.new.list) ≡ length c.args.list.now = c.make_ready.ensures.list_len_unchanged ∙ c.tracks.inv.same in
-    let ready : Ready-track (c c).args.s.now (c c).args.b (c c).args.slots.now (c c).tracks.track (c.make_ready.new.list) (c.in-Keys.n) c.in-Keys.again = let wide = (c c).pre.1 in
-    record {
-      ordered = (c c).pre.0;
+    let as_long : length (c.make_ready.new.list) ≡ length c.args.list.now = c.make_ready.ensures.list_len_unchanged ∙ c.tracks.invariant.same in
+    let ready : Ready-track c.args.s.now c.args.b c.args.slots.now c.tracks.track (c.make_ready.new.list) (c.in-Keys.n) c.in-Keys.again = record {
+      ordered = c.requires.ordered;
       is-track = c.tracks-test.true;
       room = omega (arith, as_long);
       keys = keyed _ _ _ _ _ c.make_ready.ensures.readies _ _ c.in-Keys.is;
     } in
     let few : ((c.in-Keys.n) ≤ 65534) × ((c.in-Keys.n) ≤ length (c.make_ready.new.list)) = let many = ready.keys.many in
     let room = ready.room in
-    let most = (c c).pre.0.fits.few_records in
     (omega arith, omega arith) in
     omega (arith, few.0)
 
 pub record_key-requires : goal.record_key-requires
 record_key-requires c =
-    let as_long : length (c.make_ready.new.list) ≡ length c.args.list.now = c.make_ready.ensures.list_len_unchanged ∙ c.tracks.inv.same in
-    let ready : Ready-track (c c).args.s.now (c c).args.b (c c).args.slots.now (c c).tracks.track (c.make_ready.new.list) (c.in-Keys.n) c.in-Keys.again = let wide = (c c).pre.1 in
-    record { fits = (record {
-      ordered = (c c).pre.0;
+    let as_long : length (c.make_ready.new.list) ≡ length c.args.list.now = c.make_ready.ensures.list_len_unchanged ∙ c.tracks.invariant.same in
+    let ready : Ready-track c.args.s.now c.args.b c.args.slots.now c.tracks.track (c.make_ready.new.list) (c.in-Keys.n) c.in-Keys.again = record {
+      ordered = c.requires.ordered;
       is-track = c.tracks-test.true;
       room = omega (arith, as_long);
       keys = keyed _ _ _ _ _ c.make_ready.ensures.readies _ _ c.in-Keys.is;
     } in
     let known = ready in
-    (known.ordered.fits, (position-below known c.loop-i.i c.loop-i-test.true, known.is-track))).0; p_lt_count = (record {
-      ordered = (c c).pre.0;
-      is-track = c.tracks-test.true;
-      room = omega (arith, as_long);
-      keys = keyed _ _ _ _ _ c.make_ready.ensures.readies _ _ c.in-Keys.is;
-    } in
-    let known = ready in
-    (known.ordered.fits, (position-below known c.loop-i.i c.loop-i-test.true, known.is-track))).1.0; track_lt_count = (record {
-      ordered = (c c).pre.0;
-      is-track = c.tracks-test.true;
-      room = omega (arith, as_long);
-      keys = keyed _ _ _ _ _ c.make_ready.ensures.readies _ _ c.in-Keys.is;
-    } in
-    let known = ready in
-    (known.ordered.fits, (position-below known c.loop-i.i c.loop-i-test.true, known.is-track))).1.1 }
+    record { fits = known.ordered.fits; p_lt_count = position-below known c.loop-i.i c.loop-i-test.true; track_lt_count = known.is-track }
 
 pub overflow_add-i-in-loop-i : goal.overflow_add-i-in-loop-i
 overflow_add-i-in-loop-i c =
-    let as_long : length (c.make_ready.new.list) ≡ length c.args.list.now = c.make_ready.ensures.list_len_unchanged ∙ c.tracks.inv.same in
-    let ready : Ready-track (c c).args.s.now (c c).args.b (c c).args.slots.now (c c).tracks.track (c.make_ready.new.list) (c.in-Keys.n) c.in-Keys.again = let wide = (c c).pre.1 in
-    record {
-      ordered = (c c).pre.0;
+    let as_long : length (c.make_ready.new.list) ≡ length c.args.list.now = c.make_ready.ensures.list_len_unchanged ∙ c.tracks.invariant.same in
+    let ready : Ready-track c.args.s.now c.args.b c.args.slots.now c.tracks.track (c.make_ready.new.list) (c.in-Keys.n) c.in-Keys.again = record {
+      ordered = c.requires.ordered;
       is-track = c.tracks-test.true;
       room = omega (arith, as_long);
       keys = keyed _ _ _ _ _ c.make_ready.ensures.readies _ _ c.in-Keys.is;
     } in
     let few : ((c.in-Keys.n) ≤ 65534) × ((c.in-Keys.n) ≤ length (c.make_ready.new.list)) = let many = ready.keys.many in
     let room = ready.room in
-    let most = (c c).pre.0.fits.few_records in
     (omega arith, omega arith) in
     omega (arith, few.0)
 
 pub loop-i-preserved : goal.loop-i-preserved
 loop-i-preserved c =
-    let as_long : length (c.make_ready.new.list) ≡ length c.args.list.now = c.make_ready.ensures.list_len_unchanged ∙ c.tracks.inv.same in
-    let ready : Ready-track (c c).args.s.now (c c).args.b (c c).args.slots.now (c c).tracks.track (c.make_ready.new.list) (c.in-Keys.n) c.in-Keys.again = let wide = (c c).pre.1 in
-    record {
-      ordered = (c c).pre.0;
+    let as_long : length (c.make_ready.new.list) ≡ length c.args.list.now = c.make_ready.ensures.list_len_unchanged ∙ c.tracks.invariant.same in
+    let ready : Ready-track c.args.s.now c.args.b c.args.slots.now c.tracks.track (c.make_ready.new.list) (c.in-Keys.n) c.in-Keys.again = record {
+      ordered = c.requires.ordered;
       is-track = c.tracks-test.true;
       room = omega (arith, as_long);
       keys = keyed _ _ _ _ _ c.make_ready.ensures.readies _ _ c.in-Keys.is;
@@ -152,53 +126,44 @@ overflow_add-track c = omega arith
 
 pub tracks-preserved : goal.tracks-preserved
 tracks-preserved c =
-    let as_long : length (c.make_ready.new.list) ≡ length c.args.list.now = c.make_ready.ensures.list_len_unchanged ∙ c.tracks.inv.same in
-    let ready : Ready-track (c c).args.s.now (c c).args.b (c c).args.slots.now (c c).tracks.track (c.make_ready.new.list) (c.in-Keys.n) c.in-Keys.again = let wide = (c c).pre.1 in
-    record {
-      ordered = (c c).pre.0;
+    let as_long : length (c.make_ready.new.list) ≡ length c.args.list.now = c.make_ready.ensures.list_len_unchanged ∙ c.tracks.invariant.same in
+    let ready : Ready-track c.args.s.now c.args.b c.args.slots.now c.tracks.track (c.make_ready.new.list) (c.in-Keys.n) c.in-Keys.again = record {
+      ordered = c.requires.ordered;
       is-track = c.tracks-test.true;
       room = omega (arith, as_long);
       keys = keyed _ _ _ _ _ c.make_ready.ensures.readies _ _ c.in-Keys.is;
     } in
-    tracking-more ready c.loop-i-test.false c.loop-i.invariant (c (c c.before.before.before)).tracks.inv (as_long (c c.before.before.before))
+    tracking-more ready c.loop-i-test.false c.loop-i.invariant c.tracks.invariant as_long
 
 pub shape_of-list-after-tracks : goal.shape_of-list-after-tracks
 shape_of-list-after-tracks c = c.tracks.invariant.same
 
 pub returns-after-tracks : goal.returns-after-tracks
-returns-after-tracks c = record { result_value = tracked-all c.args.s.now c.args.b c.args.list.now c.tracks.list c.tracks.met c.tracks.track c.tracks.invariant c.tracks-test.false; list_len_unchanged = c.tracks.invariant.same }
+returns-after-tracks c = record { result_value = tracked-all c.args.s.now c.args.b c.args.list.now c.tracks.list c.tracks.met-1 c.tracks.track c.tracks.invariant c.tracks-test.false; list_len_unchanged = c.tracks.invariant.same }
 
 pub shape_of-list-in-Refused : goal.shape_of-list-in-Refused
 shape_of-list-in-Refused c =
-    let as_long : length (c.make_ready.new.list) ≡ length c.args.list.now = c.make_ready.ensures.list_len_unchanged ∙ c.tracks.inv.same in
+    let as_long : length (c.make_ready.new.list) ≡ length c.args.list.now = c.make_ready.ensures.list_len_unchanged ∙ c.tracks.invariant.same in
     as_long
 
 pub returns-in-Refused : goal.returns-in-Refused
 returns-in-Refused c =
-    let as_long : length (c.make_ready.new.list) ≡ length c.args.list.now = c.make_ready.ensures.list_len_unchanged ∙ c.tracks.inv.same in
-    record { result_value = all_meet (c c.before.before.before.before.before).args.s.now (c c.before.before.before.before.before).args.b _ _ c.tracks-test.true (c c.before.before.before.before.before).tracks.invariant.before (refused _ _ _ _ _ c.make_ready.ensures.readies _ c.in-Refused.is); list_len_unchanged = as_long }
+    let as_long : length (c.make_ready.new.list) ≡ length c.args.list.now = c.make_ready.ensures.list_len_unchanged ∙ c.tracks.invariant.same in
+    record { result_value = all_meet c.args.s.now c.args.b _ _ c.tracks-test.true c.tracks.invariant.before (refused _ _ _ _ _ c.make_ready.ensures.readies _ c.in-Refused.is); list_len_unchanged = as_long }
 
 pub shape_of-list-in-Refused-record_key : goal.shape_of-list-in-Refused-record_key
 shape_of-list-in-Refused-record_key c =
-    let as_long : length (c.make_ready.new.list) ≡ length c.args.list.now = c.make_ready.ensures.list_len_unchanged ∙ c.tracks.inv.same in
+    let as_long : length (c.make_ready.new.list) ≡ length c.args.list.now = c.make_ready.ensures.list_len_unchanged ∙ c.tracks.invariant.same in
     as_long
 
 pub returns-in-Refused-record_key : goal.returns-in-Refused-record_key
 returns-in-Refused-record_key c =
-    let as_long : length (c.make_ready.new.list) ≡ length c.args.list.now = c.make_ready.ensures.list_len_unchanged ∙ c.tracks.inv.same in
-    let ready : Ready-track (c c).args.s.now (c c).args.b (c c).args.slots.now (c c).tracks.track (c.make_ready.new.list) (c.in-Keys.n) c.in-Keys.again = let wide = (c c).pre.1 in
-    record { result_value = (record {
-      ordered = (c c).pre.0;
+    let as_long : length (c.make_ready.new.list) ≡ length c.args.list.now = c.make_ready.ensures.list_len_unchanged ∙ c.tracks.invariant.same in
+    let ready : Ready-track c.args.s.now c.args.b c.args.slots.now c.tracks.track (c.make_ready.new.list) (c.in-Keys.n) c.in-Keys.again = record {
+      ordered = c.requires.ordered;
       is-track = c.tracks-test.true;
       room = omega (arith, as_long);
       keys = keyed _ _ _ _ _ c.make_ready.ensures.readies _ _ c.in-Keys.is;
     } in
     let known = ready in
-    (all_meet (c c.before.before.before.before.before.before.before.before.before.before.before.before).args.s.now (c c.before.before.before.before.before.before.before.before.before.before.before.before).args.b _ _ known.is-track (c c.before.before.before.before.before.before.before.before.before.before.before.before).tracks.invariant.before (record-refused known c.loop-i-test.true _ c.loop-i.invariant c.record_key.ensures c.in-Refused-record_key.is), as_long)).0; list_len_unchanged = (record {
-      ordered = (c c).pre.0;
-      is-track = c.tracks-test.true;
-      room = omega (arith, as_long);
-      keys = keyed _ _ _ _ _ c.make_ready.ensures.readies _ _ c.in-Keys.is;
-    } in
-    let known = ready in
-    (all_meet (c c.before.before.before.before.before.before.before.before.before.before.before.before).args.s.now (c c.before.before.before.before.before.before.before.before.before.before.before.before).args.b _ _ known.is-track (c c.before.before.before.before.before.before.before.before.before.before.before.before).tracks.invariant.before (record-refused known c.loop-i-test.true _ c.loop-i.invariant c.record_key.ensures c.in-Refused-record_key.is), as_long)).1 }
+    record { result_value = all_meet c.args.s.now c.args.b _ _ known.is-track c.tracks.invariant.before (record-refused known c.loop-i-test.true _ c.loop-i.invariant c.record_key.ensures c.in-Refused-record_key.is); list_len_unchanged = as_long }

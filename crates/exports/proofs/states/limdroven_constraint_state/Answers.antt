@@ -1,0 +1,13 @@
+-- `limdroven_constraint_state` meets its contract: what was read is refused, or its numbers are written. Assumes nothing.
+use mathlib.Core.Path.{refl}
+use Rattle.numbers.specs.States.{flag}
+use Rattle.lists.specs.Answers.{constraint_state_read}
+use Rattle.numbers.proofs.Said.{said-answer, said-refusal}
+use borrow.Author.Rules.{rules}
+use Rattle.exports.proofs.states.limdroven_constraint_state.Goals as goal
+
+pub returns-in-Refused : goal.returns-in-Refused
+returns-in-Refused c = said-refusal flag constraint_state_read _ _ _ c.constraint_state.ensures c.in-Refused.is _ _ _ _ refl c.refused.ensures
+
+pub returns-in-Read : goal.returns-in-Read
+returns-in-Read c = said-answer flag constraint_state_read _ _ _ c.constraint_state.ensures c.in-Read.is _ _ _ refl c.put_flag.ensures

@@ -1,0 +1,7 @@
+-- `limdroven_name` meets its contract. Assumes nothing.
+use Rattle.numbers.proofs.Said.{handed}
+use borrow.Author.Rules.{rules}
+use Rattle.exports.proofs.texts.limdroven_name.Goals as goal
+
+pub returns : goal.returns
+returns c = handed _ _ _ _ _ c.text_part.ensures c.put_part.ensures

@@ -1,0 +1,6 @@
+-- `unlinked` meets its contract. Assumes nothing.
+use borrow.Author.Rules.{rules}
+use Rattle.marks.proofs.counts.unlinked.Goals as goal
+
+pub returns : goal.returns
+returns c = rw (c.previous_at-previous.ensures, c.next_at-next.ensures)

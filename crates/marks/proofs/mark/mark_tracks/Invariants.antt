@@ -1,0 +1,14 @@
+use Rattle.marks.proofs.Passing.{Passing, no-track, as_many, all-tracks, few-links, one-track}
+use Rattle.marks.proofs.Following.{Ending}
+use Rattle.chains.specs.Block.{kind_of, links}
+use lib.ListN.{length, length-replicate}
+use mathlib.Core.Path.{sym, ap, ◌∙◌}
+use native.Mathlib.Omega.{arith}
+use Prim.Native.Nat.{◌-◌}
+use Rattle.marks.proofs.mark.mark_tracks.Given as goal
+
+abbrev pub invariant-loop-track : goal.invariant-loop-track
+invariant-loop-track l = Passing (kind_of l.b.kind) (links l.s l.b) l.marks l.reached l.track
+
+abbrev pub decreases-loop-track : goal.decreases-loop-track
+decreases-loop-track l = l.b.initials.count - l.track

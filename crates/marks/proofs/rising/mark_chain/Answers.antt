@@ -80,7 +80,7 @@ pub overflow_add-n : goal.overflow_add-n
 overflow_add-n c =
     let found : record_of (links c.args.s.now c.args.b) (c.loop-link.link) ≡ some (c.in-At.p) = sym c.lookup.ensures ∙ ap found_read c.in-At.is in
     let stands : Behind c.args.s.now c.args.b c.args.track (c.in-At.p) c.loop-link.expected c.loop-link.frame = c.behind.ensures c.if-not-behind.false _ in
-    let room : c.loop-link.n < c.args.b.records.count = rising.room (c c.before.before).args.s.now (c c.before.before).args.b (c c.before.before).args.track _ (c c.before.before).requires.0 (c c.before.before).requires.1.0 _ _ _ _ _ _ c.loop-link.invariant c.loop-link-test.true ((c.in-At.p) c.before.before) (found c.before.before) stands in
+    let room : c.loop-link.n < c.args.b.records.count = rising.room c.args.s.now c.args.b c.args.track _ c.requires.ordered c.requires.track_lt_count _ _ _ _ _ _ c.loop-link.invariant c.loop-link-test.true (c.in-At.p) found stands in
     let less = room in omega (arith, less, c.requires.ordered.fits.few_records)
 
 pub frame_at-frame-requires : goal.frame_at-frame-requires
@@ -99,7 +99,7 @@ pub loop-link-smaller : goal.loop-link-smaller
 loop-link-smaller c =
     let found : record_of (links c.args.s.now c.args.b) (c.loop-link.link) ≡ some (c.in-At.p) = sym c.lookup.ensures ∙ ap found_read c.in-At.is in
     let stands : Behind c.args.s.now c.args.b c.args.track (c.in-At.p) c.loop-link.expected c.loop-link.frame = c.behind.ensures c.if-not-behind.false _ in
-    let room : c.loop-link.n < c.args.b.records.count = rising.room (c c.before.before).args.s.now (c c.before.before).args.b (c c.before.before).args.track _ (c c.before.before).requires.0 (c c.before.before).requires.1.0 _ _ _ _ _ _ c.loop-link.invariant c.loop-link-test.true ((c.in-At.p) c.before.before) (found c.before.before) stands in
+    let room : c.loop-link.n < c.args.b.records.count = rising.room c.args.s.now c.args.b c.args.track _ c.requires.ordered c.requires.track_lt_count _ _ _ _ _ _ c.loop-link.invariant c.loop-link-test.true (c.in-At.p) found stands in
     let less = room in omega (arith, less)
 
 pub loop-link-preserved : goal.loop-link-preserved

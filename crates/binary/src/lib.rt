@@ -1,6 +1,7 @@
 // Document 01, module 1: the byte reader, as functions of the lent slice and a position. Every position is taken, those past
 // the end too.
 #![tactic(auto)]
+
 pub mod blocks;
 pub mod counts;
 pub mod groups;

@@ -2,6 +2,7 @@
 // that hold names, the path and payloads. Every call reads the section again, because it trusts no caller; that takes time in the
 // number of names, whatever the number of records.
 #![tactic(auto)]
+
 pub mod interpolation;
 pub mod keyframes;
 pub mod lists;

@@ -1,5 +1,6 @@
 // What the calls for C answer, as numbers in a slice of u64: document 01's answers field by field, in a fixed order.
 #![tactic(auto)]
+
 pub mod camera;
 pub mod groups;
 pub mod keyframes;

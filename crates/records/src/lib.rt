@@ -1,6 +1,7 @@
 // Document 01, "Records": the items of each kind of record, and a record or state read at an offset. It is first read as its bits,
 // an i32 or f32 as its 32 bits; its summary, as the Rust has it, is made of these.
 #![tactic(auto)]
+
 pub mod base;
 pub mod bone;
 pub mod curves;

@@ -1,5 +1,6 @@
 // Document 01, module 2: reading a model section. Its parts are read in file order, each by its own file here.
 #![tactic(auto)]
+
 pub mod closing;
 pub mod display;
 pub mod keyframes;

@@ -7,8 +7,8 @@ use mathlib.Core.Path.{◌≡◌, refl, sym, ap, subst, ◌∙◌}
 use lib.ListN as list
 use lib.ListN.{length, take, drop, length-drop}
 use lib.Seq.{length-take-le}
-use Rattle.layout.specs.Walk.{Walk, fine, refused, Reader, ◌>>=◌, ◌>>◌, block, items, answered, entry_of}
-use Rattle.layout.specs.Records.{base, initial, additional, model, size}
+use Rattle.layout.specs.Walk.{Walk, fine, refused, Reader, ◌>>=◌, block, items, answered, entry_of}
+use Rattle.layout.specs.Records.{base, initial, additional, size}
 use Rattle.layout.proofs.Inversion.{came, same-value, item-fits}
 use Rattle.layout.proofs.Walks.{Walks, end as ended}
 use Rattle.binary.specs.Groups.{u32x3}

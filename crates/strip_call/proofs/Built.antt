@@ -11,7 +11,7 @@ use lib.ListN.{length, length-append}
 use Rattle.layout.specs.Walk.{Refusal, Answer, answered, declined}
 use Rattle.clip.specs.Scan.{scan}
 use Rattle.clip.specs.Chain.{chain}
-use Rattle.clip.specs.Build.{positions, chain_refusal, chain_of, disconnected, loose, track_refusal, build_refusal}
+use Rattle.clip.specs.Build.{positions, chain_refusal, chain_of, disconnected, track_refusal, build_refusal}
 use Rattle.clip.proofs.First.{or-none, first-none}
 use Rattle.strip.specs.Work.{each, track_mark}
 use Rattle.chains.specs.Block.{kind_of, links}

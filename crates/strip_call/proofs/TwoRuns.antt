@@ -4,7 +4,6 @@ use lib.ListN.{take}
 use Rattle.layout.specs.Walk.{answered}
 use Rattle.section.specs.Limits.{edition1}
 use Rattle.strip.specs.Strip.{count_width}
-use Rattle.strip.specs.Call.{Built}
 use Rattle.strip.specs.Runs as Strip1
 use Rattle.strip.proofs.Demand3.{demand3}
 use Rattle.clip.proofs.Follow.{no_answer}

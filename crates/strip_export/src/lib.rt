@@ -1,5 +1,6 @@
 // The strip call of document 01 for C.
 #![tactic(auto)]
+
 pub mod call;
 mod faults;
 mod values;

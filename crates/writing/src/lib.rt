@@ -1,5 +1,6 @@
 // Document 01, module 6: the tracks of a strip, measured and written. One piece of code serves bones and morphs.
 #![tactic(auto)]
+
 pub mod chain;
 pub mod key;
 pub mod track;

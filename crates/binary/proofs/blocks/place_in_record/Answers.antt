@@ -1,6 +1,4 @@
 -- `place_in_record` meets its contract. Assumes nothing.
-use borrow.Author.Rules.{rules}
-use native.Mathlib.Omega.{arith}
 use Rattle.binary.proofs.Runs.{place_of, first_short}
 use Rattle.binary.proofs.blocks.place_in_record.Goals as goal
 

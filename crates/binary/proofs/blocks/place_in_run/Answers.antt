@@ -1,5 +1,4 @@
 -- `place_in_run` meets its contract. Assumes nothing.
-use borrow.Author.Rules.{rules}
 use native.Mathlib.Omega.{arith}
 use native.Mathlib.Nat.{div-mul-le_self}
 use Rattle.binary.proofs.Runs.{in-run-past, in-run-short, in-run-some}

@@ -1,5 +1,4 @@
 -- `record_size` meets its contract. Assumes nothing.
-use borrow.Author.Rules.{rules}
 use Rattle.binary.proofs.Runs.{size_of}
 use Rattle.binary.proofs.blocks.record_size.Goals as goal
 

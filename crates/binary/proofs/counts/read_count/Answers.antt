@@ -1,5 +1,4 @@
 -- `read_count` meets its contract: each return is where the walk goes on to or stops. Assumes nothing.
-use borrow.Author.Rules.{rules}
 use Rattle.layout.specs.Walk.{count}
 use Rattle.binary.proofs.Reading.{reading}
 use Rattle.binary.proofs.counts.read_count.Goals as goal

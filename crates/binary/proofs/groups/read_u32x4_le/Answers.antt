@@ -1,5 +1,4 @@
 -- `read_u32x4_le` meets its contract: each return is where the walk goes on to or stops. Assumes nothing.
-use borrow.Author.Rules.{rules}
 use Rattle.binary.proofs.Reading.{reading}
 use Rattle.binary.specs.Groups.{u32x4}
 use Rattle.binary.proofs.groups.read_u32x4_le.Goals as goal

@@ -1,7 +1,6 @@
 -- `float` meets its contract: a pattern above an infinity's, its sign left off, is a NaN's, and there is one NaN. Assumes nothing.
 use mathlib.Core.Bool.{Bool, not}
 use mathlib.Core.Path.{◌≡◌, refl, sym, subst, ◌∙◌}
-use borrow.Author.Rules.{rules}
 use borrow.Author.Tests.{lt-ltb, le-ltb}
 use lib.Dec.{T}
 use lib.Ieee.{Float, nan, inf, fin, is_nan, of_bits, div, binary32}

@@ -1,5 +1,4 @@
 -- `read_i32_le` meets its contract: each return is where the walk goes on to or stops. Assumes nothing.
-use borrow.Author.Rules.{rules}
 use Rattle.binary.proofs.Reading.{reading}
 use Rattle.binary.proofs.numbers.read_i32_le.Goals as goal
 

@@ -1,5 +1,4 @@
 -- `read_u32_le` meets its contract. Assumes nothing.
-use borrow.Author.Rules.{rules}
 use native.Mathlib.Omega.{arith}
 use mathlib.Core.Path.{sym, ◌∙◌}
 use Rattle.layout.specs.Walk.{u32_at}

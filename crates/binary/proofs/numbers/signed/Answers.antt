@@ -6,7 +6,6 @@ use lib.IntN.{pos, negsuc, ◌-ℤ◌}
 use mir.Syntax.{w32}
 use mir.Val.{SFits, to_z, of_z, bits}
 use mir.ValLaws.{to_z_pos, to_z-neg, to_z-of_z}
-use borrow.Author.Rules.{rules}
 use Rattle.binary.proofs.numbers.signed.Goals as goal
 
 below-minus-one : (m : ℕ) → negsuc 0 -ℤ pos m ≡ negsuc m

@@ -1,5 +1,4 @@
 -- `skip` meets its contract: the tests say whether the block is whole. Assumes nothing.
-use borrow.Author.Rules.{rules}
 use native.Mathlib.Omega.{arith}
 use mathlib.Core.Path.{sym}
 use Rattle.layout.proofs.Steps.{whole, short}

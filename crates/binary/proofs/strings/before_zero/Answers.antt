@@ -1,8 +1,6 @@
 -- `before_zero` meets its contract: no zero stands among the bytes passed. Assumes nothing.
-use Prim.Native.Nat.{◌-◌, ◌≤◌}
 use native.Mathlib.Omega.{arith}
-use lib.ListN.{take, drop}
-use Rattle.binary.proofs.Zero.{Passed, part-more, part-here, part-whole}
+use Rattle.binary.proofs.Zero.{part-more, part-here, part-whole}
 use Rattle.binary.proofs.strings.before_zero.Goals as goal
 
 pub loop-i-init : goal.loop-i-init

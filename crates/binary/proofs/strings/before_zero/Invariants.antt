@@ -1,7 +1,6 @@
 use Prim.Native.Nat.{◌-◌, ◌≤◌}
-use native.Mathlib.Omega.{arith}
 use lib.ListN.{take, drop}
-use Rattle.binary.proofs.Zero.{Passed, part-more, part-here, part-whole}
+use Rattle.binary.proofs.Zero.{Passed}
 use Rattle.binary.proofs.strings.before_zero.Given as goal
 
 abbrev pub invariant-loop-i : goal.invariant-loop-i

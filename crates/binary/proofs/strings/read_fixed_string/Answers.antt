@@ -3,7 +3,6 @@ use mathlib.Core.Path.{sym, ap, ◌∙◌}
 use native.Mathlib.Omega.{arith}
 use Rattle.layout.specs.Walk.{part}
 use Rattle.layout.proofs.Steps.{whole, short, value-is}
-use borrow.Author.Rules.{rules}
 use Rattle.binary.proofs.strings.read_fixed_string.Goals as goal
 
 pub returns-then-s-at : goal.returns-then-s-at

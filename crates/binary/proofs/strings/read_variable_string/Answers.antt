@@ -1,5 +1,4 @@
 -- `read_variable_string` meets its contract: each return is where the walk goes on to or stops. Assumes nothing.
-use borrow.Author.Rules.{rules}
 use Rattle.layout.specs.Walk.{string}
 use Rattle.binary.proofs.Reading.{reading}
 use Rattle.binary.proofs.strings.read_variable_string.Goals as goal

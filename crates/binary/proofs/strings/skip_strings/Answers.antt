@@ -1,9 +1,7 @@
 -- `skip_strings` meets its contract: what is left to skip from the position reached comes to the same as all from the first one.
 -- Assumes nothing.
-use mathlib.Core.Path.{◌≡◌, refl, sym, ap, ◌∙◌}
-use native.Mathlib.Omega.{arith}
-use borrow.Author.Rules.{rules}
-use Rattle.layout.specs.Walk.{string, times}
+use mathlib.Core.Path.{refl, sym, ap, ◌∙◌}
+use Rattle.layout.specs.Walk.{string}
 use Rattle.layout.proofs.Steps.{times-turn, times-stop, times-done}
 use Rattle.binary.specs.Answers.{string_read}
 use Rattle.binary.proofs.strings.skip_strings.Goals as goal

@@ -1,9 +1,5 @@
-use mathlib.Core.Path.{◌≡◌, refl, sym, ap, ◌∙◌}
-use native.Mathlib.Omega.{arith}
-use borrow.Author.Rules.{rules}
+use mathlib.Core.Path.{◌≡◌}
 use Rattle.layout.specs.Walk.{string, times}
-use Rattle.layout.proofs.Steps.{times-turn, times-stop, times-done}
-use Rattle.binary.specs.Answers.{string_read}
 use Rattle.binary.proofs.strings.skip_strings.Given as goal
 
 abbrev pub invariant-loop-left : goal.invariant-loop-left

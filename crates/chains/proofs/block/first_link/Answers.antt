@@ -1,6 +1,5 @@
 -- `first_link` meets its contract. Assumes nothing.
 use Rattle.clip.specs.Section.{initial_at}
-use borrow.Author.Rules.{rules}
 use Rattle.chains.proofs.block.first_link.Goals as goal
 
 pub returns : goal.returns

@@ -1,6 +1,5 @@
 -- `frame_at` meets its contract. Assumes nothing.
 use Rattle.clip.specs.Section.{additional_at}
-use borrow.Author.Rules.{rules}
 use Rattle.chains.proofs.block.frame_at.Goals as goal
 
 pub returns : goal.returns

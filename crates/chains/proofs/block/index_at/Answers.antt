@@ -4,7 +4,6 @@ use mathlib.Core.Path.{ap, ◌∙◌}
 use Prim.Native.Nat.{ℕ}
 use native.Mathlib.Omega.{arith}
 use Rattle.clip.specs.Section.{additional_at}
-use borrow.Author.Rules.{rules}
 use Rattle.chains.proofs.block.index_at.Goals as goal
 
 pub returns : goal.returns

@@ -1,6 +1,5 @@
 -- `previous_at` meets its contract. Assumes nothing.
 use Rattle.clip.specs.Section.{additional_at}
-use borrow.Author.Rules.{rules}
 use Rattle.chains.proofs.block.previous_at.Goals as goal
 
 pub returns : goal.returns

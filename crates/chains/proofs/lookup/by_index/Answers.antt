@@ -1,7 +1,6 @@
 -- `by_index` meets its contract. Assumes nothing.
 use Rattle.chains.proofs.ByIndex.{index-field, slots-below, slots-rise, lookup-inside, lookup-at, lookup_absent}
 use native.Mathlib.Omega.{arith}
-use borrow.Author.Rules.{rules}
 use Rattle.chains.proofs.lookup.by_index.Goals as goal
 
 pub find-requires : goal.find-requires

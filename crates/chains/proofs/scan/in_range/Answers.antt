@@ -1,8 +1,8 @@
 -- `in_range` meets its contract. Assumes nothing.
-use Rattle.chains.proofs.Scanned.{Ranging, ranging, ranging-more, out_of_range}
+use Rattle.chains.proofs.Scanned.{ranging, ranging-more, out_of_range}
 use mathlib.Core.Path.{subst}
 use mathlib.Core.Logic.{inl, inr}
-use Prim.Native.Nat.{ℕ, ◌-◌, ◌≤◌, ◌<◌}
+use Prim.Native.Nat.{ℕ, ◌≤◌, ◌<◌}
 use native.Mathlib.Omega.{arith}
 use Rattle.chains.proofs.scan.in_range.Goals as goal
 

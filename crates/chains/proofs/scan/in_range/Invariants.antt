@@ -1,8 +1,5 @@
-use Rattle.chains.proofs.Scanned.{Ranging, ranging, ranging-more, out_of_range}
-use mathlib.Core.Path.{subst}
-use mathlib.Core.Logic.{inl, inr}
-use Prim.Native.Nat.{ℕ, ◌-◌, ◌≤◌, ◌<◌}
-use native.Mathlib.Omega.{arith}
+use Rattle.chains.proofs.Scanned.{Ranging}
+use Prim.Native.Nat.{◌-◌}
 use Rattle.chains.proofs.scan.in_range.Given as goal
 
 abbrev pub invariant-loop-p : goal.invariant-loop-p

@@ -7,7 +7,6 @@ use lib.ListN.{length}
 use mathlib.Core.List.{List}
 use mathlib.Core.Path.{sym, ap, ◌∙◌, subst}
 use Prim.Native.Nat.{ℕ}
-use borrow.Author.Rules.{rules}
 use Rattle.chains.proofs.scan.index_scan.Goals as goal
 
 pub returns-then-rising : goal.returns-then-rising

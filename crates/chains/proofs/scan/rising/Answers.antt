@@ -1,6 +1,6 @@
 -- `rising` meets its contract. Assumes nothing.
-use Rattle.chains.proofs.RisingIndices.{Rising, rising_none, rising-more, rising-all}
-use Prim.Native.Nat.{ℕ, ◌-◌}
+use Rattle.chains.proofs.RisingIndices.{rising_none, rising-more, rising-all}
+use Prim.Native.Nat.{ℕ}
 use mathlib.Core.Path.{◌≡◌}
 use native.Mathlib.Omega.{arith}
 use Rattle.chains.proofs.scan.rising.Goals as goal

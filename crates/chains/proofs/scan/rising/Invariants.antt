@@ -1,7 +1,5 @@
-use Rattle.chains.proofs.RisingIndices.{Rising, rising_none, rising-more, rising-all}
-use Prim.Native.Nat.{ℕ, ◌-◌}
-use mathlib.Core.Path.{◌≡◌}
-use native.Mathlib.Omega.{arith}
+use Rattle.chains.proofs.RisingIndices.{Rising}
+use Prim.Native.Nat.{◌-◌}
 use Rattle.chains.proofs.scan.rising.Given as goal
 
 abbrev pub invariant-loop-p : goal.invariant-loop-p

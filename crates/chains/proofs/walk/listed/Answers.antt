@@ -5,8 +5,7 @@ use Rattle.clip.specs.First.{member}
 use lib.ListN.{take}
 use mathlib.Core.Path.{◌≡◌, refl, sym, subst}
 use mathlib.Core.Bool.{false}
-use Prim.Native.Nat.{ℕ, ◌-◌, ◌≤◌}
-use borrow.Author.Rules.{rules}
+use Prim.Native.Nat.{ℕ}
 use native.Mathlib.Omega.{arith}
 use Rattle.chains.proofs.walk.listed.Goals as goal
 

@@ -1,11 +1,8 @@
-use Rattle.chains.proofs.Going.{listed-step, listed-is}
 use Rattle.clip.specs.First.{member}
 use lib.ListN.{take}
-use mathlib.Core.Path.{◌≡◌, refl, sym, subst}
+use mathlib.Core.Path.{◌≡◌}
 use mathlib.Core.Bool.{false}
-use Prim.Native.Nat.{ℕ, ◌-◌, ◌≤◌}
-use borrow.Author.Rules.{rules}
-use native.Mathlib.Omega.{arith}
+use Prim.Native.Nat.{◌-◌, ◌≤◌}
 use Rattle.chains.proofs.walk.listed.Given as goal
 
 abbrev pub invariant-loop-i : goal.invariant-loop-i

@@ -1,8 +1,6 @@
 -- `walk` meets its contract. Assumes nothing.
-use Rattle.chains.proofs.Going.{Going, begins, misses, found_below, cycles, wrong, more_room, goes_on, ends}
+use Rattle.chains.proofs.Going.{begins, misses, found_below, cycles, wrong, more_room, goes_on, ends}
 use mathlib.Core.Path.{sym, ◌∙◌}
-use Prim.Native.Nat.{◌-◌}
-use borrow.Author.Rules.{rules}
 use native.Mathlib.Omega.{arith}
 use Rattle.chains.proofs.walk.walk.Goals as goal
 

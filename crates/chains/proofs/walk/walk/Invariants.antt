@@ -1,8 +1,5 @@
-use Rattle.chains.proofs.Going.{Going, begins, misses, found_below, cycles, wrong, more_room, goes_on, ends}
-use mathlib.Core.Path.{sym, ◌∙◌}
+use Rattle.chains.proofs.Going.{Going}
 use Prim.Native.Nat.{◌-◌}
-use borrow.Author.Rules.{rules}
-use native.Mathlib.Omega.{arith}
 use Rattle.chains.proofs.walk.walk.Given as goal
 
 abbrev pub invariant-loop-link : goal.invariant-loop-link

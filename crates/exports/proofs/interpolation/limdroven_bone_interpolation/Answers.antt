@@ -2,7 +2,6 @@
 use mathlib.Core.Path.{ap}
 use lib.ListN.{take}
 use Rattle.numbers.proofs.Said.{handed}
-use borrow.Author.Rules.{rules}
 use Rattle.exports.proofs.interpolation.limdroven_bone_interpolation.Goals as goal
 
 pub returns : goal.returns

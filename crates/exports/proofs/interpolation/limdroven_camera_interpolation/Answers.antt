@@ -1,6 +1,5 @@
 -- `limdroven_camera_interpolation` meets its contract. Assumes nothing.
 use Rattle.numbers.proofs.Said.{handed}
-use borrow.Author.Rules.{rules}
 use Rattle.exports.proofs.interpolation.limdroven_camera_interpolation.Goals as goal
 
 pub returns : goal.returns

@@ -3,7 +3,6 @@ use mathlib.Core.Path.{sym}
 use native.Mathlib.Omega.{arith}
 use lib.Seq.{take_all}
 use Rattle.numbers.proofs.Said.{handed}
-use borrow.Author.Rules.{rules}
 use Rattle.exports.proofs.interpolation.put_curves.Goals as goal
 
 pub returns-then-payload-lt16 : goal.returns-then-payload-lt16

@@ -3,7 +3,6 @@ use mathlib.Core.Path.{refl}
 use Rattle.numbers.specs.Keyframes.{bone}
 use Rattle.lists.specs.Answers.{bone_keyframe_read}
 use Rattle.numbers.proofs.Said.{said-answer, said-refusal}
-use borrow.Author.Rules.{rules}
 use Rattle.exports.proofs.keyframes.limdroven_bone_keyframe.Goals as goal
 
 pub returns-in-Refused : goal.returns-in-Refused

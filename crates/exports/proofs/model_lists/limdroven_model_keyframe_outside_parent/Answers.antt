@@ -3,7 +3,6 @@ use mathlib.Core.Path.{refl}
 use Rattle.numbers.specs.States.{pair}
 use Rattle.lists.specs.Answers.{model_pair_read}
 use Rattle.numbers.proofs.Said.{said-answer, said-refusal}
-use borrow.Author.Rules.{rules}
 use Rattle.exports.proofs.model_lists.limdroven_model_keyframe_outside_parent.Goals as goal
 
 pub returns-in-Refused : goal.returns-in-Refused

@@ -1,6 +1,5 @@
 -- `limdroven_light_payload` meets its contract. Assumes nothing.
 use Rattle.numbers.proofs.Said.{handed}
-use borrow.Author.Rules.{rules}
 use Rattle.exports.proofs.payloads.limdroven_light_payload.Goals as goal
 
 pub returns : goal.returns

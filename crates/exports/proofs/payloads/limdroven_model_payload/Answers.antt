@@ -1,6 +1,5 @@
 -- `limdroven_model_payload` meets its contract. Assumes nothing.
 use Rattle.numbers.proofs.Said.{handed}
-use borrow.Author.Rules.{rules}
 use Rattle.exports.proofs.payloads.limdroven_model_payload.Goals as goal
 
 pub returns : goal.returns

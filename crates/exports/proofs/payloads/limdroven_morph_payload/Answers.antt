@@ -1,6 +1,5 @@
 -- `limdroven_morph_payload` meets its contract. Assumes nothing.
 use Rattle.numbers.proofs.Said.{handed}
-use borrow.Author.Rules.{rules}
 use Rattle.exports.proofs.payloads.limdroven_morph_payload.Goals as goal
 
 pub returns : goal.returns

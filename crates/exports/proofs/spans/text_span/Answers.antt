@@ -3,7 +3,6 @@ use mathlib.Core.Path.{refl}
 use Rattle.lists.specs.Answers.{text_span_read}
 use Rattle.numbers.proofs.Said.{said-answer, said-refusal}
 use Rattle.exports.specs.Spans.{span}
-use borrow.Author.Rules.{rules}
 use Rattle.exports.proofs.spans.text_span.Goals as goal
 
 pub returns-in-Refused : goal.returns-in-Refused

@@ -3,7 +3,6 @@ use mathlib.Core.Path.{refl}
 use Rattle.numbers.specs.States.{flag}
 use Rattle.lists.specs.Answers.{constraint_state_read}
 use Rattle.numbers.proofs.Said.{said-answer, said-refusal}
-use borrow.Author.Rules.{rules}
 use Rattle.exports.proofs.states.limdroven_constraint_state.Goals as goal
 
 pub returns-in-Refused : goal.returns-in-Refused

@@ -3,7 +3,6 @@ use mathlib.Core.Path.{refl}
 use Rattle.numbers.specs.Summary.{model_summary}
 use Rattle.section.specs.Summary.{model_summary_read}
 use Rattle.numbers.proofs.Said.{said-answer, said-refusal}
-use borrow.Author.Rules.{rules}
 use Rattle.exports.proofs.summary.limdroven_model_summary.Goals as goal
 
 pub returns-in-Refused : goal.returns-in-Refused

@@ -1,6 +1,5 @@
 -- `limdroven_english_name` meets its contract. Assumes nothing.
 use Rattle.numbers.proofs.Said.{handed}
-use borrow.Author.Rules.{rules}
 use Rattle.exports.proofs.texts.limdroven_english_name.Goals as goal
 
 pub returns : goal.returns

@@ -1,6 +1,5 @@
 -- `limdroven_path` meets its contract. Assumes nothing.
 use Rattle.numbers.proofs.Said.{handed}
-use borrow.Author.Rules.{rules}
 use Rattle.exports.proofs.texts.limdroven_path.Goals as goal
 
 pub returns : goal.returns

@@ -3,7 +3,6 @@ use mathlib.Core.Path.{refl}
 use Rattle.numbers.specs.Tracks.{track_summary}
 use Rattle.tracks.specs.Answers.{track_summary_read}
 use Rattle.numbers.proofs.Said.{said-answer, said-refusal}
-use borrow.Author.Rules.{rules}
 use Rattle.exports.proofs.track.limdroven_camera_summary.Goals as goal
 
 pub returns-in-Refused : goal.returns-in-Refused

@@ -3,7 +3,6 @@ use mathlib.Core.Path.{refl}
 use Rattle.numbers.specs.Tracks.{light}
 use Rattle.tracks.specs.Answers.{light_keyframe_read}
 use Rattle.numbers.proofs.Said.{said-answer, said-refusal}
-use borrow.Author.Rules.{rules}
 use Rattle.exports.proofs.track_keyframes.limdroven_light_keyframe.Goals as goal
 
 pub returns-in-Refused : goal.returns-in-Refused

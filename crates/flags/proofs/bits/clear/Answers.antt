@@ -1,8 +1,7 @@
 -- `clear` meets its contract: the places passed are 0. Assumes nothing.
-use Rattle.flags.proofs.Cleared.{Cleared, none-cleared, one-cleared, all-cleared}
-use lib.ListN.{length, length-set}
+use Rattle.flags.proofs.Cleared.{none-cleared, one-cleared, all-cleared}
+use lib.ListN.{length-set}
 use native.Mathlib.Omega.{arith}
-use Prim.Native.Nat.{◌-◌}
 use Rattle.flags.proofs.bits.clear.Goals as goal
 
 pub loop-i-init : goal.loop-i-init

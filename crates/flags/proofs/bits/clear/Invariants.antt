@@ -1,6 +1,5 @@
-use Rattle.flags.proofs.Cleared.{Cleared, none-cleared, one-cleared, all-cleared}
-use lib.ListN.{length, length-set}
-use native.Mathlib.Omega.{arith}
+use Rattle.flags.proofs.Cleared.{Cleared}
+use lib.ListN.{length}
 use Prim.Native.Nat.{◌-◌}
 use Rattle.flags.proofs.bits.clear.Given as goal
 

@@ -1,5 +1,4 @@
 -- `weight` meets its contract: no bit is lost. Assumes nothing.
-use borrow.Author.Rules.{rules}
 use Rattle.flags.proofs.Digits.{shifted}
 use Rattle.flags.proofs.bits.weight.Goals as goal
 

@@ -1,5 +1,4 @@
 -- `bone_curves` meets its contract: each curve that was read is clamped by a call. Assumes nothing.
-use borrow.Author.Rules.{rules}
 use Rattle.keys.proofs.curves.bone_curves.Goals as goal
 
 pub returns : goal.returns

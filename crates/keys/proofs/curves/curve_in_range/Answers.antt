@@ -1,6 +1,5 @@
 -- `curve_in_range` meets its contract. Assumes nothing.
 use Rattle.keys.proofs.Clamping.{curve-kept}
-use borrow.Author.Rules.{rules}
 use Rattle.keys.proofs.curves.curve_in_range.Goals as goal
 
 pub returns : goal.returns

@@ -1,6 +1,5 @@
 -- `curves_in_range` meets its contract: each curve is tested by a call. Assumes nothing.
 use Rattle.keys.proofs.Clamping.{curves-kept}
-use borrow.Author.Rules.{rules}
 use Rattle.keys.proofs.curves.curves_in_range.Goals as goal
 
 pub returns : goal.returns

@@ -1,7 +1,6 @@
 -- `copy` meets its contract: in each turn one float more is copied. Assumes nothing.
-use Rattle.keys.proofs.Stores.{Copied, copied_none, copied_more, copied_all}
+use Rattle.keys.proofs.Stores.{copied_none, copied_more, copied_all}
 use native.Mathlib.Omega.{arith}
-use Prim.Native.Nat.{◌-◌}
 use Rattle.keys.proofs.fields.copy.Goals as goal
 
 pub loop-i-init : goal.loop-i-init

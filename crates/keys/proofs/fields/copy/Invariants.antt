@@ -1,5 +1,4 @@
-use Rattle.keys.proofs.Stores.{Copied, copied_none, copied_more, copied_all}
-use native.Mathlib.Omega.{arith}
+use Rattle.keys.proofs.Stores.{Copied}
 use Prim.Native.Nat.{◌-◌}
 use Rattle.keys.proofs.fields.copy.Given as goal
 

@@ -1,7 +1,6 @@
 -- `copy_curves` meets its contract: the bytes of the curves stand one behind the other. Assumes nothing.
 use Rattle.keys.proofs.Clamping.{curve-bytes}
 use native.Mathlib.Omega.{arith}
-use borrow.Author.Rules.{rules}
 use Rattle.keys.proofs.fields.copy_curves.Goals as goal
 
 pub copy_groups-requires : goal.copy_groups-requires

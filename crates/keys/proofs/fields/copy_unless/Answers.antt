@@ -4,7 +4,6 @@ use Rattle.keys.proofs.Bodies.{length-bytes_at}
 use Rattle.clip.specs.Section.{bytes_at}
 use Prim.Native.Nat.{◌*◌}
 use native.Mathlib.Omega.{arith}
-use borrow.Author.Rules.{rules}
 use Rattle.keys.proofs.fields.copy_unless.Goals as goal
 
 pub returns-then-plain : goal.returns-then-plain

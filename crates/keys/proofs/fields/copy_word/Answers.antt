@@ -2,7 +2,6 @@
 use Rattle.keys.proofs.Stores.{four-stored}
 use lib.ListN.{length-set}
 use native.Mathlib.Omega.{arith}
-use borrow.Author.Rules.{rules}
 use Rattle.keys.proofs.fields.copy_word.Goals as goal
 
 pub bounds-output-place-2 : goal.bounds-output-place-2

@@ -1,6 +1,5 @@
 -- `curve_unless` meets its contract. Assumes nothing.
 use Rattle.keys.proofs.Placing.{left_out, room-kept, kept}
-use borrow.Author.Rules.{rules}
 use Rattle.keys.proofs.fields.curve_unless.Goals as goal
 
 pub returns-then-plain : goal.returns-then-plain

@@ -1,7 +1,6 @@
 -- `three_unless` meets its contract. Assumes nothing.
 use Rattle.keys.proofs.Placing.{left_out, room-kept, kept}
 use Rattle.keys.specs.Placed.{three_curves}
-use borrow.Author.Rules.{rules}
 use Rattle.keys.proofs.fields.three_unless.Goals as goal
 
 pub returns-then-plain : goal.returns-then-plain

@@ -2,10 +2,8 @@
 use Rattle.keys.proofs.Placing.{room-front, room_back, wrote_then}
 use Rattle.keys.specs.Placed.{three_curves}
 use lib.ListN.{get_or}
-use mathlib.Core.List.{List, []}
+use mathlib.Core.List.{[]}
 use mathlib.Core.Bool.{cond}
-use Prim.Native.Nat.{ℕ}
-use borrow.Author.Rules.{rules}
 use Rattle.keys.proofs.fields.write_curves.Goals as goal
 
 pub three_unless-next-requires : goal.three_unless-next-requires

@@ -1,7 +1,6 @@
 -- `bone_map` meets its contract. Assumes nothing.
 use Rattle.keys.proofs.Groups.{bone-map-is}
 use mathlib.Core.Path.{◌∙◌}
-use borrow.Author.Rules.{rules}
 use Rattle.keys.proofs.plain.bone_map.Goals as goal
 
 pub returns : goal.returns

@@ -1,6 +1,5 @@
 -- `bone_plain` meets its contract: what was read and compared are the groups of the body. Assumes nothing.
 use Rattle.keys.proofs.Groups.{bone-plain-is}
-use borrow.Author.Rules.{rules}
 use Rattle.keys.proofs.plain.bone_plain.Goals as goal
 
 pub returns : goal.returns

@@ -1,7 +1,6 @@
 -- `morph_map` meets its contract. Assumes nothing.
 use Rattle.keys.proofs.Groups.{morph-map-is}
 use mathlib.Core.Path.{◌∙◌}
-use borrow.Author.Rules.{rules}
 use Rattle.keys.proofs.plain.morph_map.Goals as goal
 
 pub returns : goal.returns

@@ -1,6 +1,5 @@
 -- `morph_plain` meets its contract. Assumes nothing.
 use Rattle.keys.proofs.Groups.{morph-plain-is}
-use borrow.Author.Rules.{rules}
 use Rattle.keys.proofs.plain.morph_plain.Goals as goal
 
 pub returns : goal.returns

@@ -3,7 +3,6 @@ use Rattle.keys.proofs.Groups.{plain_word}
 use Prim.Native.Nat.{ℕ, ◌+◌, ◌<◌}
 use native.Mathlib.Omega.{arith}
 use lib.ListN.{get_or}
-use borrow.Author.Rules.{rules}
 use Rattle.keys.proofs.plain.plain_curve.Goals as goal
 
 pub returns : goal.returns

@@ -1,5 +1,4 @@
 -- `plain_curves` meets its contract: each curve is compared by a call. Assumes nothing.
-use borrow.Author.Rules.{rules}
 use Rattle.keys.proofs.plain.plain_curves.Goals as goal
 
 pub returns : goal.returns

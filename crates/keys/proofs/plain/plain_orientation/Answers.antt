@@ -1,5 +1,4 @@
 -- `plain_orientation` meets its contract. Assumes nothing.
-use borrow.Author.Rules.{rules}
 use Rattle.keys.proofs.plain.plain_orientation.Goals as goal
 
 pub returns : goal.returns

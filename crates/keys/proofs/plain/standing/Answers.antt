@@ -2,7 +2,6 @@
 use Rattle.keys.proofs.Groups.{at_most}
 use Prim.Native.Nat.{◌+◌, ◌<◌}
 use native.Mathlib.Omega.{arith}
-use borrow.Author.Rules.{rules}
 use Rattle.keys.proofs.plain.standing.Goals as goal
 
 pub overflow_add-result : goal.overflow_add-result

@@ -1,6 +1,5 @@
 -- `bone_asked` meets its contract. Assumes nothing.
 use mathlib.Core.Path.{◌∙◌}
-use borrow.Author.Rules.{rules}
 use Rattle.keys.proofs.pose.bone_asked.Goals as goal
 
 pub returns : goal.returns

@@ -1,5 +1,4 @@
 -- `finite3` meets its contract. Assumes nothing.
-use borrow.Author.Rules.{rules}
 use Rattle.keys.proofs.pose.finite3.Goals as goal
 
 pub returns : goal.returns

@@ -1,6 +1,5 @@
 -- `pose_asked` meets its contract: the tests are made in the order of the numbers. Assumes nothing.
 use Rattle.keys.proofs.Asking.{refused-12, refused-13, pose-fine}
-use borrow.Author.Rules.{rules}
 use Rattle.keys.proofs.pose.pose_asked.Goals as goal
 
 pub returns-then-translation_fails : goal.returns-then-translation_fails

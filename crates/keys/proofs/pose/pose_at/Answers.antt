@@ -1,7 +1,6 @@
 -- `pose_at` meets its contract: the words of the section are those of the body. Assumes nothing.
 use Rattle.keys.proofs.Bodies.{pose-is}
 use mathlib.Core.Path.{◌∙◌}
-use borrow.Author.Rules.{rules}
 use Rattle.keys.proofs.pose.pose_at.Goals as goal
 
 pub returns : goal.returns

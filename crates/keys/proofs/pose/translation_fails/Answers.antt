@@ -1,6 +1,5 @@
 -- `translation_fails` meets its contract. Assumes nothing.
 use Rattle.clip.specs.Keys.{translation_fails}
-use borrow.Author.Rules.{rules}
 use Rattle.keys.proofs.pose.translation_fails.Goals as goal
 
 pub returns : goal.returns

@@ -1,7 +1,6 @@
 -- `weight_at` meets its contract. Assumes nothing.
 use Rattle.keys.proofs.Bodies.{weight_is}
 use mathlib.Core.Path.{◌∙◌}
-use borrow.Author.Rules.{rules}
 use Rattle.keys.proofs.pose.weight_at.Goals as goal
 
 pub returns : goal.returns

@@ -1,5 +1,4 @@
 -- `four_words` meets its contract: each of the four is read by a call. Assumes nothing.
-use borrow.Author.Rules.{rules}
 use Rattle.keys.proofs.words.four_words.Goals as goal
 
 pub returns : goal.returns

@@ -1,5 +1,4 @@
 -- `three_words` meets its contract: each of the three is read by a call. Assumes nothing.
-use borrow.Author.Rules.{rules}
 use Rattle.keys.proofs.words.three_words.Goals as goal
 
 pub returns : goal.returns

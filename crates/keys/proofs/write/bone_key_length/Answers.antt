@@ -1,6 +1,5 @@
 -- `bone_key_length` meets its contract. Assumes nothing.
 use Rattle.keys.proofs.Lengths.{bone-length-is}
-use borrow.Author.Rules.{rules}
 use Rattle.keys.proofs.write.bone_key_length.Goals as goal
 
 pub returns : goal.returns

@@ -1,6 +1,5 @@
 -- `morph_key_length` meets its contract. Assumes nothing.
 use Rattle.keys.proofs.Lengths.{morph-length-is}
-use borrow.Author.Rules.{rules}
 use Rattle.keys.proofs.write.morph_key_length.Goals as goal
 
 pub returns : goal.returns

@@ -3,11 +3,9 @@ use Rattle.keys.proofs.Lengths.{bone-parts}
 use Rattle.keys.proofs.Placing.{room-first, room-second, room-third, wrote-three}
 use Rattle.keys.specs.Placed.{Room, head_bytes, pose_bytes, curve_bytes, bone_key_bytes}
 use mathlib.Core.Path.{◌≡◌, refl}
-use mathlib.Core.List.{List, ◌++◌, map}
+use mathlib.Core.List.{◌++◌, map}
 use Rattle.records.specs.Curves.{curves_at}
 use Rattle.strip.specs.Plain.{clamped}
-use Prim.Native.Nat.{ℕ}
-use borrow.Author.Rules.{rules}
 use Rattle.keys.proofs.write.write_bone_key.Goals as goal
 
 pub write_head-pose-requires : goal.write_head-pose-requires

@@ -3,7 +3,6 @@ use Rattle.keys.proofs.Stores.{stored2}
 use Rattle.strip.specs.Keys.{little_endian}
 use lib.ListN.{length-set}
 use native.Mathlib.Omega.{arith}
-use borrow.Author.Rules.{rules}
 use Rattle.keys.proofs.write.write_count.Goals as goal
 
 pub bounds-output-place-2 : goal.bounds-output-place-2

@@ -6,7 +6,6 @@ use Rattle.strip.specs.Plain.{clamped}
 use mathlib.Core.List.{List, map}
 use mathlib.Core.Path.{sym, subst}
 use Prim.Native.Nat.{ℕ}
-use borrow.Author.Rules.{rules}
 use Rattle.keys.proofs.write.write_curves.Goals as goal
 
 pub returns-then-plain : goal.returns-then-plain

@@ -1,7 +1,6 @@
 -- `write_head` meets its contract: the map byte is stored behind the frame. Assumes nothing.
 use Rattle.keys.proofs.Stores.{head-room, head-wrote}
 use native.Mathlib.Omega.{arith}
-use borrow.Author.Rules.{rules}
 use Rattle.keys.proofs.write.write_head.Goals as goal
 
 pub write_u32-requires : goal.write_u32-requires

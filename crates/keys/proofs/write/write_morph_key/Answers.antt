@@ -4,10 +4,8 @@ use Rattle.keys.proofs.Placing.{room-front, room_back, wrote_then}
 use Rattle.keys.specs.Placed.{Room, head_bytes, morph_key_bytes}
 use Rattle.clip.specs.Section.{bytes_at}
 use mathlib.Core.Path.{◌≡◌}
-use mathlib.Core.List.{List, [], ◌++◌}
+use mathlib.Core.List.{[], ◌++◌}
 use mathlib.Core.Bool.{cond}
-use Prim.Native.Nat.{ℕ}
-use borrow.Author.Rules.{rules}
 use Rattle.keys.proofs.write.write_morph_key.Goals as goal
 
 pub write_head-weight-requires : goal.write_head-weight-requires

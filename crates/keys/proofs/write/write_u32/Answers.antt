@@ -3,7 +3,6 @@ use Rattle.keys.proofs.Stores.{stored4}
 use Rattle.strip.specs.Keys.{little_endian}
 use lib.ListN.{length-set}
 use native.Mathlib.Omega.{arith}
-use borrow.Author.Rules.{rules}
 use Rattle.keys.proofs.write.write_u32.Goals as goal
 
 pub bounds-output-place-2 : goal.bounds-output-place-2

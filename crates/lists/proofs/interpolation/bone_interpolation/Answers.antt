@@ -3,7 +3,6 @@ use mathlib.Core.Path.{sym, ap, ◌∙◌}
 use Rattle.lists.specs.Answers.{bone_keyframe_read}
 use Rattle.lists.proofs.Curved.{curves-fit}
 use Rattle.lists.proofs.Handed.{curves-handed}
-use borrow.Author.Rules.{rules}
 use Rattle.lists.proofs.interpolation.bone_interpolation.Goals as goal
 
 pub curves_at-requires : goal.curves_at-requires

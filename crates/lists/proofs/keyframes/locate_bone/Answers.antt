@@ -1,5 +1,4 @@
 -- `locate_bone` meets its contract. Assumes nothing.
-use borrow.Author.Rules.{rules}
 use Rattle.lists.proofs.keyframes.locate_bone.Goals as goal
 
 pub returns-then-include_index : goal.returns-then-include_index

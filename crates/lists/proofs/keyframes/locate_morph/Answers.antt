@@ -1,5 +1,4 @@
 -- `locate_morph` meets its contract. Assumes nothing.
-use borrow.Author.Rules.{rules}
 use Rattle.lists.proofs.keyframes.locate_morph.Goals as goal
 
 pub returns-then-include_index : goal.returns-then-include_index

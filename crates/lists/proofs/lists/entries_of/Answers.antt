@@ -5,7 +5,6 @@ use mathlib.Core.Path.{◌≡◌, refl, ap, sym, ◌∙◌}
 use Rattle.section.specs.declared.model.Model.{Model}
 use Rattle.lists.specs.Lists.{listed, entries_of}
 use Rattle.lists.specs.declared.lists.List.{List}
-use borrow.Author.Rules.{rules}
 use Rattle.lists.proofs.lists.entries_of.Goals as goal
 
 -- The entries of a list that was seen to be k.

@@ -1,5 +1,4 @@
 -- `entry` meets its contract: each return is where the walk goes on to or stops. Assumes nothing.
-use borrow.Author.Rules.{rules}
 use Rattle.binary.proofs.Reading.{reading}
 use Rattle.lists.specs.Lists.{entry_at}
 use Rattle.lists.proofs.lists.entry.Goals as goal

@@ -5,7 +5,6 @@ use Rattle.section.proofs.Facts.{model-fits}
 use Rattle.section.proofs.Reading.{model-goes, model-stops}
 use Rattle.lists.specs.Lists.{locate}
 use Rattle.lists.proofs.Reading.{entry-goes, entry-stops, same-entry}
-use borrow.Author.Rules.{rules}
 use Rattle.lists.proofs.lists.locate.Goals as goal
 
 pub entries_of-requires : goal.entries_of-requires

@@ -2,7 +2,6 @@
 use mathlib.Core.Path.{refl}
 use Rattle.lists.specs.Answers.{flag_read}
 use Rattle.lists.proofs.Reading.{nth-unlocated, nth-short, nth_read}
-use borrow.Author.Rules.{rules}
 use Rattle.lists.proofs.model_lists.model_keyframe_constraint_state.Goals as goal
 
 pub returns-in-Refused : goal.returns-in-Refused

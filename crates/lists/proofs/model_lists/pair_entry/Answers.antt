@@ -2,7 +2,6 @@
 use mathlib.Core.Path.{ap}
 use Rattle.lists.specs.Lists.{listed}
 use Rattle.lists.proofs.Reading.{same-entry}
-use borrow.Author.Rules.{rules}
 use Rattle.lists.proofs.model_lists.pair_entry.Goals as goal
 
 pub returns : goal.returns

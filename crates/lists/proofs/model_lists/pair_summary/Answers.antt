@@ -1,7 +1,6 @@
 -- `pair_summary` meets its contract. Assumes nothing.
 use Rattle.binary.proofs.Reading.{signed_is}
 use Rattle.lists.specs.ModelLists.{pair_of}
-use borrow.Author.Rules.{rules}
 use Rattle.lists.proofs.model_lists.pair_summary.Goals as goal
 
 pub returns : goal.returns

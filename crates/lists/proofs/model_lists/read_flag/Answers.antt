@@ -1,5 +1,4 @@
 -- `read_flag` meets its contract: each return is where the walk goes on to or stops. Assumes nothing.
-use borrow.Author.Rules.{rules}
 use Rattle.lists.proofs.Reading.{reading}
 use Rattle.lists.specs.ModelLists.{flag_bits}
 use Rattle.lists.proofs.model_lists.read_flag.Goals as goal

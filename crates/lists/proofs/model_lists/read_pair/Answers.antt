@@ -1,5 +1,4 @@
 -- `read_pair` meets its contract: each return is where the walk goes on to or stops. Assumes nothing.
-use borrow.Author.Rules.{rules}
 use Rattle.lists.proofs.Reading.{reading}
 use Rattle.lists.specs.ModelLists.{pair_bits}
 use Rattle.lists.proofs.model_lists.read_pair.Goals as goal

@@ -2,7 +2,6 @@
 use mathlib.Core.Path.{refl}
 use Rattle.binary.specs.Answers.{u32x4_read}
 use Rattle.lists.proofs.Reading.{nth-unlocated, nth-short, nth_read}
-use borrow.Author.Rules.{rules}
 use Rattle.lists.proofs.states.outside_parent_state.Goals as goal
 
 pub returns-in-Refused : goal.returns-in-Refused

@@ -1,5 +1,4 @@
 -- `name_span` meets its contract: there is no such name, or the names before it are not whole, or it is read. Assumes nothing.
-use borrow.Author.Rules.{rules}
 use Rattle.lists.proofs.Spans.{name-absent, name-short, name-read}
 use Rattle.lists.proofs.texts.name_span.Goals as goal
 

@@ -3,7 +3,6 @@ use mathlib.Core.Path.{ap, ◌∙◌}
 use Rattle.layout.specs.Walk.{answer}
 use Rattle.lists.specs.Texts.{text_at}
 use Rattle.lists.proofs.Handed.{text-told}
-use borrow.Author.Rules.{rules}
 use Rattle.lists.proofs.texts.read_text.Goals as goal
 
 pub returns-in-Name : goal.returns-in-Name

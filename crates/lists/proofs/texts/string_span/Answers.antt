@@ -3,7 +3,6 @@ use mathlib.Core.Path.{sym, ap}
 use Rattle.layout.specs.Walk.{answer}
 use Rattle.binary.specs.Answers.{string_read}
 use Rattle.binary.specs.declared.strings.ReadString.{ReadString}
-use borrow.Author.Rules.{rules}
 use Rattle.lists.proofs.texts.string_span.Goals as goal
 
 pub returns-in-Short : goal.returns-in-Short

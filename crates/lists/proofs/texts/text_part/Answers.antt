@@ -4,7 +4,6 @@ use Rattle.layout.specs.Walk.{Answer, Part}
 use Rattle.lists.specs.Parts.{part_or}
 use Rattle.lists.specs.Answers.{text_span_read}
 use Rattle.lists.proofs.Handed.{handed}
-use borrow.Author.Rules.{rules}
 use Rattle.lists.proofs.texts.text_part.Goals as goal
 
 pub returns-in-Refused : goal.returns-in-Refused

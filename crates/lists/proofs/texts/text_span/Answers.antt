@@ -1,7 +1,6 @@
 -- `text_span` meets its contract. Assumes nothing.
 use Rattle.section.proofs.Reading.{model-answers, model-declines}
 use Rattle.lists.specs.Texts.{text_of}
-use borrow.Author.Rules.{rules}
 use Rattle.lists.proofs.texts.text_span.Goals as goal
 
 pub returns-in-Refused : goal.returns-in-Refused

@@ -1,15 +1,14 @@
 -- `count` meets its contract. Assumes nothing.
-use Rattle.marks.proofs.Unreached.{Counted, all-reached, starts, below, done, passes, takes, leaves}
+use Rattle.marks.proofs.Unreached.{all-reached, starts, below, done, passes, takes, leaves}
 use Rattle.marks.proofs.Marking.{zero-mark, some-mark}
 use Rattle.marks.proofs.Each.{length-each, each_at}
 use Rattle.chains.specs.Block.{kind_of, links}
 use Rattle.strip.specs.Work.{track_mark}
 use lib.ListN.{length, get_or}
 use mathlib.Core.Path.{sym, ap, ◌∙◌}
-use mathlib.Core.Logic.{⊎_elim}
 use mathlib.Core.List.{List}
 use native.Mathlib.Omega.{arith}
-use Prim.Native.Nat.{ℕ, ◌-◌}
+use Prim.Native.Nat.{ℕ}
 use Rattle.marks.proofs.counts.count.Goals as goal
 use Rattle.marks.proofs.counts.count.Goals.{then-marks-p-eq0+then-unlinked, then-marks-p-eq0+else-unlinked, else-marks-p-eq0}
 
@@ -48,9 +47,9 @@ loop-p-preserved c =
     let some = some-mark kind records c.loop-p.p in
     let mark = ap (λ (l : List ℕ). get_or l c.loop-p.p 0) c.requires.marks_value ∙ each_at (track_mark kind records) c.args.b.records.count c.loop-p.p c.loop-p-test.true in
     elim c.if-marks-p-eq0.branch [
-      then-marks-p-eq0+then-unlinked w ↦ rw (w.disconnected-is, w.loose-is) (takes c.loop-p.invariant c.loop-p-test.true (zero (sym mark ∙ w.if-marks-p-eq0.true)) (sym w.unlinked.ensures ∙ w.if-unlinked.true))
-    | then-marks-p-eq0+else-unlinked w ↦ rw (w.disconnected-is, w.loose-is) (leaves c.loop-p.invariant c.loop-p-test.true (zero (sym mark ∙ w.if-marks-p-eq0.true)) (sym w.unlinked.ensures ∙ w.if-unlinked.false))
-    | else-marks-p-eq0 w ↦ rw (w.disconnected-is, w.loose-is) (passes c.loop-p.invariant c.loop-p-test.true (some (λ e. w.if-marks-p-eq0.false (mark ∙ e))))
+      | then-marks-p-eq0+then-unlinked w ↦ rw (w.disconnected-is, w.loose-is) (takes c.loop-p.invariant c.loop-p-test.true (zero (sym mark ∙ w.if-marks-p-eq0.true)) (sym w.unlinked.ensures ∙ w.if-unlinked.true))
+      | then-marks-p-eq0+else-unlinked w ↦ rw (w.disconnected-is, w.loose-is) (leaves c.loop-p.invariant c.loop-p-test.true (zero (sym mark ∙ w.if-marks-p-eq0.true)) (sym w.unlinked.ensures ∙ w.if-unlinked.false))
+      | else-marks-p-eq0 w ↦ rw (w.disconnected-is, w.loose-is) (passes c.loop-p.invariant c.loop-p-test.true (some (λ e. w.if-marks-p-eq0.false (mark ∙ e))))
     ]
 
 pub returns-then-reached-b : goal.returns-then-reached-b

@@ -1,5 +1,4 @@
 -- `unlinked` meets its contract. Assumes nothing.
-use borrow.Author.Rules.{rules}
 use Rattle.marks.proofs.counts.unlinked.Goals as goal
 
 pub returns : goal.returns

@@ -2,7 +2,6 @@
 use lib.ListN.{replicate}
 use mathlib.Core.Path.{ap, ◌∙◌}
 use Prim.Native.Nat.{ℕ}
-use borrow.Author.Rules.{rules}
 use Rattle.marks.proofs.mark.mark.Goals as goal
 
 pub mark_tracks-reached-requires : goal.mark_tracks-reached-requires

@@ -1,5 +1,5 @@
 -- `mark_chain` meets its contract. Assumes nothing.
-use Rattle.marks.proofs.Following.{Ending, Following, begins, never-absent, room, goes_on, ends}
+use Rattle.marks.proofs.Following.{Ending, begins, never-absent, room, goes_on, ends}
 use Rattle.chains.specs.Lookup.{found_read}
 use Rattle.chains.specs.Block.{kind_of, links}
 use Rattle.clip.proofs.Indexed.{record_of-found}
@@ -7,8 +7,7 @@ use Rattle.clip.specs.Scan.{record_of}
 use mathlib.Core.Option.{some}
 use mathlib.Core.Path.{◌≡◌, sym, ap, ◌∙◌}
 use native.Mathlib.Omega.{arith}
-use borrow.Author.Rules.{rules}
-use Prim.Native.Nat.{◌-◌, ◌<◌}
+use Prim.Native.Nat.{◌<◌}
 use Rattle.marks.proofs.mark.mark_chain.Goals as goal
 
 pub overflow_add-mark : goal.overflow_add-mark

@@ -1,11 +1,10 @@
 -- `mark_tracks` meets its contract. Assumes nothing.
-use Rattle.marks.proofs.Passing.{Passing, no-track, as_many, all-tracks, few-links, one-track}
+use Rattle.marks.proofs.Passing.{no-track, as_many, all-tracks, few-links, one-track}
 use Rattle.marks.proofs.Following.{Ending}
 use Rattle.chains.specs.Block.{kind_of, links}
 use lib.ListN.{length, length-replicate}
 use mathlib.Core.Path.{sym, ap, ◌∙◌}
 use native.Mathlib.Omega.{arith}
-use Prim.Native.Nat.{◌-◌}
 use Rattle.marks.proofs.mark.mark_tracks.Goals as goal
 
 pub loop-track-init : goal.loop-track-init

@@ -9,9 +9,8 @@ use Rattle.clip.specs.Scan.{record_of}
 use lib.ListN.{length}
 use mathlib.Core.Option.{some}
 use mathlib.Core.Path.{◌≡◌, refl, sym, ap, ◌∙◌}
-use Prim.Native.Nat.{ℕ, ◌-◌, ◌<◌}
+use Prim.Native.Nat.{◌<◌}
 use native.Mathlib.Omega.{arith}
-use borrow.Author.Rules.{rules}
 use Rattle.marks.proofs.rising.mark_chain.Goals as goal
 
 pub initial_key-requires : goal.initial_key-requires

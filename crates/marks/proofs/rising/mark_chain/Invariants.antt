@@ -1,17 +1,5 @@
-use Rattle.marks.proofs.RisingChains as rising
 use Rattle.marks.proofs.RisingChains.{Seeing}
-use Rattle.marks.specs.Rising.{Behind}
-use Rattle.chains.specs.Block.{kind_of, links}
-use Rattle.chains.specs.Fault.{met_read}
-use Rattle.chains.specs.Lookup.{found_read}
-use Rattle.clip.specs.Scan.{record_of}
-use lib.ListN.{length}
-use mathlib.Core.Option.{some}
-use mathlib.Core.Path.{◌≡◌, refl, sym, ap, ◌∙◌}
-use Prim.Native.Nat.{ℕ, ◌-◌, ◌<◌}
-use native.Mathlib.Omega.{arith}
-use borrow.Author.Rules.{rules}
-use borrow.Author.Tests.{not-false}
+use Prim.Native.Nat.{◌-◌}
 use Rattle.marks.proofs.rising.mark_chain.Given as goal
 
 abbrev pub invariant-loop-link : goal.invariant-loop-link

@@ -1,6 +1,6 @@
 -- `mark_tracks` meets its contract. Assumes nothing.
 use Rattle.marks.proofs.RisingChains.{told}
-use Rattle.marks.proofs.Passing.{Passing, no-track, as_many, all-tracks, few-links, one-track}
+use Rattle.marks.proofs.Passing.{no-track, as_many, all-tracks, few-links, one-track}
 use Rattle.marks.proofs.Following.{Ending}
 use Rattle.marks.specs.Rising.{OneMarked}
 use Rattle.track_keys.proofs.Meets.{track-more}
@@ -12,9 +12,8 @@ use lib.ListN.{length, length-replicate}
 use mathlib.Core.List.{List}
 use mathlib.Core.Option.{none}
 use mathlib.Core.Path.{◌≡◌, refl, sym, ap, ◌∙◌, subst}
-use Prim.Native.Nat.{ℕ, ◌-◌}
+use Prim.Native.Nat.{ℕ}
 use native.Mathlib.Omega.{arith}
-use borrow.Author.Rules.{rules}
 use Rattle.marks.proofs.rising.mark_tracks.Goals as goal
 
 none_before : (s : List ℕ) (b : Block) → tracks_meet s b 0 ≡ none

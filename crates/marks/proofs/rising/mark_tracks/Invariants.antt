@@ -1,19 +1,9 @@
-use Rattle.marks.proofs.RisingChains.{told}
-use Rattle.marks.proofs.Passing.{Passing, no-track, as_many, all-tracks, few-links, one-track}
-use Rattle.marks.proofs.Following.{Ending}
-use Rattle.marks.specs.Rising.{OneMarked}
-use Rattle.track_keys.proofs.Meets.{track-more}
+use Rattle.marks.proofs.Passing.{Passing}
 use Rattle.chains.specs.Block.{kind_of, links}
 use Rattle.track_keys.specs.Tracks.{tracks_meet}
-use Rattle.clip.specs.First.{first}
-use Rattle.chains.specs.declared.block.Block.{Block}
-use lib.ListN.{length, length-replicate}
-use mathlib.Core.List.{List}
 use mathlib.Core.Option.{none}
-use mathlib.Core.Path.{◌≡◌, refl, sym, ap, ◌∙◌, subst}
-use Prim.Native.Nat.{ℕ, ◌-◌}
-use native.Mathlib.Omega.{arith}
-use borrow.Author.Rules.{rules}
+use mathlib.Core.Path.{◌≡◌}
+use Prim.Native.Nat.{◌-◌}
 use Rattle.marks.proofs.rising.mark_tracks.Given as goal
 
 abbrev pub invariant-loop-track : goal.invariant-loop-track

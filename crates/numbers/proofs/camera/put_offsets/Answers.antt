@@ -1,6 +1,5 @@
 -- `put_offsets` meets its contract. Assumes nothing.
 use Rattle.numbers.specs.Tracks.{camera_offsets}
-use borrow.Author.Rules.{rules}
 use Rattle.numbers.proofs.camera.put_offsets.Goals as goal
 
 pub returns : goal.returns

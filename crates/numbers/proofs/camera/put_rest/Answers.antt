@@ -2,7 +2,6 @@
 use mathlib.Core.Path.{refl}
 use Rattle.numbers.specs.Tracks.{camera_rest, camera_fields, camera_offsets}
 use Rattle.numbers.proofs.Putting.{behind}
-use borrow.Author.Rules.{rules}
 use Rattle.numbers.proofs.camera.put_rest.Goals as goal
 
 pub returns : goal.returns

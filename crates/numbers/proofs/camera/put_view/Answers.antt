@@ -4,7 +4,6 @@ use Rattle.numbers.specs.Tracks.{camera_view}
 use Rattle.numbers.specs.Groups.{base, vector}
 use Rattle.numbers.specs.States.{float}
 use Rattle.numbers.proofs.Putting.{behind}
-use borrow.Author.Rules.{rules}
 use Rattle.numbers.proofs.camera.put_view.Goals as goal
 
 pub returns : goal.returns

@@ -2,7 +2,6 @@
 use mathlib.Core.Path.{refl}
 use Rattle.numbers.specs.Groups.{pose}
 use Rattle.numbers.proofs.Putting.{same, also}
-use borrow.Author.Rules.{rules}
 use Rattle.numbers.proofs.groups.put_pose.Goals as goal
 
 pub returns : goal.returns

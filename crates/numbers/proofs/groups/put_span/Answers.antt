@@ -1,6 +1,5 @@
 -- `put_span` meets its contract. Assumes nothing.
 use Rattle.numbers.specs.Groups.{span}
-use borrow.Author.Rules.{rules}
 use Rattle.numbers.proofs.groups.put_span.Goals as goal
 
 pub returns : goal.returns

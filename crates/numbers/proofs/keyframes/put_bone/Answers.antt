@@ -3,7 +3,6 @@ use mathlib.Core.Path.{refl}
 use Rattle.numbers.specs.Keyframes.{bone, bone_flags}
 use Rattle.numbers.specs.Groups.{base, pose}
 use Rattle.numbers.proofs.Putting.{behind}
-use borrow.Author.Rules.{rules}
 use Rattle.numbers.proofs.keyframes.put_bone.Goals as goal
 
 pub returns : goal.returns

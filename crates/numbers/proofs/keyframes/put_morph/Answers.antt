@@ -3,7 +3,6 @@ use mathlib.Core.Path.{refl}
 use Rattle.numbers.specs.Keyframes.{morph, morph_fields}
 use Rattle.numbers.specs.Groups.{base}
 use Rattle.numbers.proofs.Putting.{behind}
-use borrow.Author.Rules.{rules}
 use Rattle.numbers.proofs.keyframes.put_morph.Goals as goal
 
 pub returns : goal.returns

@@ -3,7 +3,6 @@ use mathlib.Core.Path.{refl}
 use Rattle.numbers.specs.Tracks.{light, light_fields}
 use Rattle.numbers.specs.Groups.{base, vector}
 use Rattle.numbers.proofs.Putting.{behind}
-use borrow.Author.Rules.{rules}
 use Rattle.numbers.proofs.light.put_light.Goals as goal
 
 pub returns : goal.returns

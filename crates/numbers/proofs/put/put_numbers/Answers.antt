@@ -1,10 +1,7 @@
 -- `put_numbers` meets its contract: what is left to write from the place reached comes to the same as all from the first one. Assumes nothing.
-use Prim.Native.Nat.{◌-◌}
-use mathlib.Core.Path.{◌≡◌, refl, sym, ◌∙◌}
-use lib.ListN.{length, drop, length-set}
-use Rattle.numbers.specs.Put.{put}
+use mathlib.Core.Path.{refl, sym, ◌∙◌}
+use lib.ListN.{length-set}
 use Rattle.numbers.proofs.Putting.{put-turn, put-done, put-past}
-use borrow.Author.Rules.{rules}
 use Rattle.numbers.proofs.put.put_numbers.Goals as goal
 
 pub loop-i-init : goal.loop-i-init

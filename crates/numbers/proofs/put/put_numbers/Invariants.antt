@@ -1,9 +1,7 @@
 use Prim.Native.Nat.{◌-◌}
-use mathlib.Core.Path.{◌≡◌, refl, sym, ◌∙◌}
-use lib.ListN.{length, drop, length-set}
+use mathlib.Core.Path.{◌≡◌}
+use lib.ListN.{length, drop}
 use Rattle.numbers.specs.Put.{put}
-use Rattle.numbers.proofs.Putting.{put-turn, put-done, put-past}
-use borrow.Author.Rules.{rules}
 use Rattle.numbers.proofs.put.put_numbers.Given as goal
 
 abbrev pub invariant-loop-i : goal.invariant-loop-i

@@ -2,7 +2,6 @@
 use mathlib.Core.Path.{refl, sym}
 use Rattle.numbers.proofs.Putting.{put-none}
 use Rattle.numbers.proofs.Said.{refusal-said}
-use borrow.Author.Rules.{rules}
 use Rattle.numbers.proofs.refusals.refused.Goals as goal
 
 pub returns-in-TooShort : goal.returns-in-TooShort

@@ -1,5 +1,4 @@
 -- `float` meets its contract: only a NaN differs from itself. Assumes nothing.
-use borrow.Author.Rules.{rules}
 use mathlib.Core.Path.{◌≡◌, sym, ap, subst, ◌∙◌}
 use mathlib.Core.Bool.{not, false}
 use lib.Dec.{T}

@@ -3,7 +3,6 @@ use mathlib.Core.Path.{refl}
 use Rattle.numbers.specs.States.{bone_state}
 use Rattle.numbers.specs.Groups.{pose}
 use Rattle.numbers.proofs.Putting.{behind}
-use borrow.Author.Rules.{rules}
 use Rattle.numbers.proofs.states.put_bone_state.Goals as goal
 
 pub returns : goal.returns

@@ -2,7 +2,6 @@
 use mathlib.Core.Path.{refl}
 use Rattle.numbers.specs.States.{bone_state_flags}
 use Rattle.numbers.proofs.Putting.{same, also}
-use borrow.Author.Rules.{rules}
 use Rattle.numbers.proofs.states.put_bone_state_flags.Goals as goal
 
 pub returns : goal.returns

@@ -2,7 +2,6 @@
 use mathlib.Core.Path.{refl}
 use Rattle.numbers.specs.States.{flag}
 use Rattle.numbers.proofs.Putting.{same, also}
-use borrow.Author.Rules.{rules}
 use Rattle.numbers.proofs.states.put_flag.Goals as goal
 
 pub returns : goal.returns

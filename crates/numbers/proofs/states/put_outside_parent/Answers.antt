@@ -2,7 +2,6 @@
 use mathlib.Core.Path.{refl}
 use Rattle.numbers.specs.States.{outside_parent}
 use Rattle.numbers.proofs.Putting.{same, also, signed_is}
-use borrow.Author.Rules.{rules}
 use Rattle.numbers.proofs.states.put_outside_parent.Goals as goal
 
 pub returns : goal.returns

@@ -2,7 +2,6 @@
 use mathlib.Core.Path.{refl}
 use Rattle.numbers.specs.States.{pair}
 use Rattle.numbers.proofs.Putting.{same, also, signed_is}
-use borrow.Author.Rules.{rules}
 use Rattle.numbers.proofs.states.put_pair.Goals as goal
 
 pub returns : goal.returns

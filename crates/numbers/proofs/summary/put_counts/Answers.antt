@@ -2,7 +2,6 @@
 use mathlib.Core.Path.{refl}
 use Rattle.numbers.specs.Summary.{counts}
 use Rattle.numbers.proofs.Putting.{same, also, signed_is}
-use borrow.Author.Rules.{rules}
 use Rattle.numbers.proofs.summary.put_counts.Goals as goal
 
 pub returns : goal.returns

@@ -2,7 +2,6 @@
 use mathlib.Core.Path.{refl}
 use Rattle.numbers.specs.Summary.{offsets, record_offsets}
 use Rattle.numbers.proofs.Putting.{behind}
-use borrow.Author.Rules.{rules}
 use Rattle.numbers.proofs.summary.put_offsets.Goals as goal
 
 pub returns : goal.returns

@@ -1,6 +1,5 @@
 -- `put_places` meets its contract. Assumes nothing.
 use Rattle.numbers.specs.Summary.{places}
-use borrow.Author.Rules.{rules}
 use Rattle.numbers.proofs.summary.put_places.Goals as goal
 
 pub returns : goal.returns

@@ -1,6 +1,5 @@
 -- `put_record_offsets` meets its contract. Assumes nothing.
 use Rattle.numbers.specs.Summary.{record_offsets}
-use borrow.Author.Rules.{rules}
 use Rattle.numbers.proofs.summary.put_record_offsets.Goals as goal
 
 pub returns : goal.returns

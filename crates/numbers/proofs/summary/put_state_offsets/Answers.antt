@@ -1,6 +1,5 @@
 -- `put_state_offsets` meets its contract. Assumes nothing.
 use Rattle.numbers.specs.Summary.{state_offsets}
-use borrow.Author.Rules.{rules}
 use Rattle.numbers.proofs.summary.put_state_offsets.Goals as goal
 
 pub returns : goal.returns

@@ -2,7 +2,6 @@
 use mathlib.Core.Path.{refl}
 use Rattle.numbers.specs.Summary.{view}
 use Rattle.numbers.proofs.Putting.{same, also, signed_is}
-use borrow.Author.Rules.{rules}
 use Rattle.numbers.proofs.summary.put_view.Goals as goal
 
 pub returns : goal.returns

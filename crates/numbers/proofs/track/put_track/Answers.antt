@@ -1,6 +1,5 @@
 -- `put_track` meets its contract. Assumes nothing.
 use Rattle.numbers.specs.Tracks.{track_summary}
-use borrow.Author.Rules.{rules}
 use Rattle.numbers.proofs.track.put_track.Goals as goal
 
 pub returns : goal.returns

@@ -1,10 +1,7 @@
 -- `first_met` meets its contract: the flags of the numbers passed are up. Assumes nothing.
-use Prim.Native.Nat.{◌-◌}
 use native.Mathlib.Omega.{arith}
 use mathlib.Core.Path.{◌∙◌}
-use borrow.Author.Rules.{rules}
-use Rattle.order.specs.Field.{number_of}
-use Rattle.order.proofs.CloseNumbers.{Flagged, flags-start, flags-met, flags-more, none_found}
+use Rattle.order.proofs.CloseNumbers.{flags-start, flags-met, flags-more, none_found}
 use Rattle.order.proofs.close.first_met.Goals as goal
 
 pub loop-p-init : goal.loop-p-init

@@ -1,9 +1,6 @@
 use Prim.Native.Nat.{◌-◌}
-use native.Mathlib.Omega.{arith}
-use mathlib.Core.Path.{◌∙◌}
-use borrow.Author.Rules.{rules}
 use Rattle.order.specs.Field.{number_of}
-use Rattle.order.proofs.CloseNumbers.{Flagged, flags-start, flags-met, flags-more, none_found}
+use Rattle.order.proofs.CloseNumbers.{Flagged}
 use Rattle.order.proofs.close.first_met.Given as goal
 
 abbrev pub invariant-loop-p : goal.invariant-loop-p

@@ -2,7 +2,6 @@
 use Prim.Native.Nat.{◌+◌}
 use native.Mathlib.Omega.{arith}
 use mathlib.Core.Path.{sym, ◌∙◌}
-use borrow.Author.Rules.{rules}
 use Rattle.order.proofs.FirstPlaces.{too_few, only_one, two-found}
 use Rattle.order.proofs.met.first_two.Goals as goal
 

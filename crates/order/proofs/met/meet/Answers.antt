@@ -1,6 +1,5 @@
 -- `meet` meets its contract: the first two slots of the number are found, compared, and made equal. Assumes nothing.
 use native.Mathlib.Omega.{arith}
-use borrow.Author.Rules.{rules}
 use Rattle.order.proofs.Marking.{found-two, none-marked, marked-before, marked-now}
 use Rattle.order.proofs.met.meet.Goals as goal
 

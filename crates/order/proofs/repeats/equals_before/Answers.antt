@@ -1,7 +1,6 @@
 -- `equals_before` meets its contract. Assumes nothing.
 use Prim.Native.Nat.{◌-◌}
 use native.Mathlib.Omega.{arith}
-use borrow.Author.Rules.{rules}
 use Rattle.order.proofs.repeats.equals_before.Goals as goal
 
 pub overflow_cast-slots : goal.overflow_cast-slots

@@ -1,8 +1,7 @@
 -- `fill` meets its contract: the slots passed hold their own places. Assumes nothing.
-use Prim.Native.Nat.{◌-◌}
 use native.Mathlib.Omega.{arith}
-use lib.ListN.{length, length-set}
-use Rattle.order.proofs.Counted.{Filling, fill_start, fill_step, fill_done}
+use lib.ListN.{length-set}
+use Rattle.order.proofs.Counted.{fill_start, fill_step, fill_done}
 use Rattle.order.proofs.repeats.fill.Goals as goal
 
 pub loop-i-init : goal.loop-i-init

@@ -1,6 +1,5 @@
 -- `first_repeat` meets its contract. Assumes nothing.
 use mathlib.Core.Path.{◌∙◌}
-use borrow.Author.Rules.{rules}
 use Rattle.order.proofs.FirstTold.{told-consecutive, told-met, told-sorted}
 use Rattle.order.proofs.repeats.first_repeat.Goals as goal
 

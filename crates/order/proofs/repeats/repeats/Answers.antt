@@ -1,5 +1,4 @@
 -- `repeats` meets its contract: a slot has the given number, or equal numbers stand side by side. Assumes nothing.
-use borrow.Author.Rules.{rules}
 use Rattle.order.proofs.Laws.{sorted-below, sorted-numbers}
 use Rattle.order.proofs.AnyRepeat.{repeats-first, repeats-told}
 use Rattle.order.proofs.repeats.repeats.Goals as goal

@@ -1,7 +1,6 @@
 -- `find` meets its contract. Assumes nothing.
 use mathlib.Core.Path.{subst}
 use Rattle.order.specs.Find.{Stands}
-use borrow.Author.Rules.{rules}
 use Rattle.order.proofs.search.find.Goals as goal
 
 pub returns-in-At : goal.returns-in-At

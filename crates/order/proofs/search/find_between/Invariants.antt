@@ -1,6 +1,5 @@
-use Prim.Native.Nat.{◌+◌, ◌-◌, ◌/◌}
-use native.Mathlib.Omega.{arith}
-use Rattle.order.proofs.Between.{Bracket, bracket-start, bracket-up, bracket-down, bracket-found, bracket-absent}
+use Prim.Native.Nat.{◌-◌}
+use Rattle.order.proofs.Between.{Bracket}
 use Rattle.order.proofs.search.find_between.Given as goal
 
 abbrev pub invariant-loop-low : goal.invariant-loop-low

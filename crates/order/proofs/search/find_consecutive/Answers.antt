@@ -1,7 +1,6 @@
 -- `find_consecutive` meets its contract. Assumes nothing.
 use Prim.Native.Nat.{◌-◌}
 use native.Mathlib.Omega.{arith}
-use borrow.Author.Rules.{rules}
 use Rattle.order.proofs.search.find_consecutive.Goals as goal
 
 pub overflow_cast-slots : goal.overflow_cast-slots

@@ -1,9 +1,7 @@
-use Prim.Native.Nat.{◌+◌, ◌-◌, ◌/◌}
-use native.Mathlib.Omega.{arith}
+use Prim.Native.Nat.{◌-◌}
 use lib.ListN.{length}
 use Rattle.order.specs.Repeat.{number_at}
 use Rattle.order.specs.Met.{Bounds}
-use Rattle.order.proofs.Halving.{bounds-start, bounds-up, bounds-down, bounds-done}
 use Rattle.order.proofs.search.first_place.Given as goal
 
 abbrev pub invariant-loop-low : goal.invariant-loop-low

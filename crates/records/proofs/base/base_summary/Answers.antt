@@ -1,7 +1,6 @@
 -- `base_summary` meets its contract: each field is made by a call. Assumes nothing.
 use Rattle.binary.proofs.Reading.{signed_is}
 use Rattle.records.specs.Base.{base_of}
-use borrow.Author.Rules.{rules}
 use Rattle.records.proofs.base.base_summary.Goals as goal
 
 pub returns : goal.returns

@@ -1,6 +1,5 @@
 -- `keyframe_index` meets its contract. Assumes nothing.
 use Rattle.binary.proofs.Reading.{signed_is}
-use borrow.Author.Rules.{rules}
 use Rattle.records.proofs.base.keyframe_index.Goals as goal
 
 pub returns-then-include_index : goal.returns-then-include_index

@@ -1,5 +1,4 @@
 -- `read_base` meets its contract: each return is where the walk goes on to or stops. Assumes nothing.
-use borrow.Author.Rules.{rules}
 use Rattle.binary.proofs.Reading.{reading}
 use Rattle.records.specs.Base.{base_bits}
 use Rattle.records.proofs.base.read_base.Goals as goal

@@ -1,5 +1,4 @@
 -- `read_index` meets its contract. Assumes nothing.
-use borrow.Author.Rules.{rules}
 use Rattle.records.proofs.base.read_index.Goals as goal
 
 pub returns-then-include_index : goal.returns-then-include_index

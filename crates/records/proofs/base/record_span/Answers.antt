@@ -1,6 +1,5 @@
 -- `record_span` meets its contract. Assumes nothing.
 use Rattle.records.specs.Base.{span_of}
-use borrow.Author.Rules.{rules}
 use Rattle.records.proofs.base.record_span.Goals as goal
 
 pub returns : goal.returns

@@ -1,6 +1,5 @@
 -- `bone_summary` meets its contract: each field is made by a call or is the record's own. Assumes nothing.
 use Rattle.records.specs.Keyframes.{bone_of}
-use borrow.Author.Rules.{rules}
 use Rattle.records.proofs.bone.bone_summary.Goals as goal
 
 pub returns : goal.returns

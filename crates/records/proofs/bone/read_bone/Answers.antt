@@ -1,5 +1,4 @@
 -- `read_bone` meets its contract: each return is where the walk goes on to or stops. Assumes nothing.
-use borrow.Author.Rules.{rules}
 use Rattle.records.proofs.Reading.{reading}
 use Rattle.records.specs.Keyframes.{bone_bits}
 use Rattle.records.proofs.bone.read_bone.Goals as goal

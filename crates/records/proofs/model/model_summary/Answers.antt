@@ -1,6 +1,5 @@
 -- `model_summary` meets its contract: each field is made by a call or is the record's own. Assumes nothing.
 use Rattle.records.specs.Keyframes.{model_of}
-use borrow.Author.Rules.{rules}
 use Rattle.records.proofs.model.model_summary.Goals as goal
 
 pub returns : goal.returns

@@ -1,5 +1,4 @@
 -- `read_model_record` meets its contract: each return is where the walk goes on to or stops. Assumes nothing.
-use borrow.Author.Rules.{rules}
 use Rattle.records.proofs.Reading.{reading}
 use Rattle.records.specs.Keyframes.{model_bits}
 use Rattle.records.proofs.model.read_model_record.Goals as goal

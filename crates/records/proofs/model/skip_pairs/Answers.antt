@@ -1,6 +1,5 @@
 -- `skip_pairs` meets its contract: the items are those that it hands on. Assumes nothing.
 use Rattle.records.proofs.Reading.{skips-items}
-use borrow.Author.Rules.{rules}
 use Rattle.records.proofs.model.skip_pairs.Goals as goal
 
 pub returns : goal.returns

@@ -1,6 +1,5 @@
 -- `morph_summary` meets its contract: each field is made by a call or is the record's own. Assumes nothing.
 use Rattle.records.specs.Keyframes.{morph_of}
-use borrow.Author.Rules.{rules}
 use Rattle.records.proofs.morph.morph_summary.Goals as goal
 
 pub returns : goal.returns

@@ -1,5 +1,4 @@
 -- `read_morph` meets its contract: each return is where the walk goes on to or stops. Assumes nothing.
-use borrow.Author.Rules.{rules}
 use Rattle.records.proofs.Reading.{reading}
 use Rattle.records.specs.Keyframes.{morph_bits}
 use Rattle.records.proofs.morph.read_morph.Goals as goal

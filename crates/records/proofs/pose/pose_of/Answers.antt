@@ -1,6 +1,5 @@
 -- `pose_of` meets its contract: each field is made by a call. Assumes nothing.
 use Rattle.records.specs.Pose.{pose_of}
-use borrow.Author.Rules.{rules}
 use Rattle.records.proofs.pose.pose_of.Goals as goal
 
 pub returns : goal.returns

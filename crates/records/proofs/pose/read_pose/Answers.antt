@@ -1,5 +1,4 @@
 -- `read_pose` meets its contract: each return is where the walk goes on to or stops. Assumes nothing.
-use borrow.Author.Rules.{rules}
 use Rattle.binary.proofs.Reading.{reading}
 use Rattle.records.specs.Pose.{pose_bits}
 use Rattle.records.proofs.pose.read_pose.Goals as goal

@@ -1,6 +1,5 @@
 -- `bone_state_summary` meets its contract: each field is made by a call or is the record's own. Assumes nothing.
 use Rattle.records.specs.States.{bone_state_of}
-use borrow.Author.Rules.{rules}
 use Rattle.records.proofs.states.bone_state_summary.Goals as goal
 
 pub returns : goal.returns

@@ -1,7 +1,6 @@
 -- `outside_parent_state_summary` meets its contract: each field is made by a call or is the record's own. Assumes nothing.
 use Rattle.binary.proofs.Reading.{signed_is}
 use Rattle.records.specs.States.{parent_state_of}
-use borrow.Author.Rules.{rules}
 use Rattle.records.proofs.states.outside_parent_state_summary.Goals as goal
 
 pub returns : goal.returns

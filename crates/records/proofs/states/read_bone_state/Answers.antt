@@ -1,5 +1,4 @@
 -- `read_bone_state` meets its contract: each return is where the walk goes on to or stops. Assumes nothing.
-use borrow.Author.Rules.{rules}
 use Rattle.records.proofs.Reading.{reading}
 use Rattle.records.specs.States.{bone_state}
 use Rattle.records.proofs.states.read_bone_state.Goals as goal

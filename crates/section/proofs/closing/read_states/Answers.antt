@@ -1,5 +1,4 @@
 -- `read_states` meets its contract: each return is where the walk goes on to or stops. Assumes nothing.
-use borrow.Author.Rules.{rules}
 use Rattle.binary.proofs.Reading.{reading}
 use Rattle.section.specs.Model.{states}
 use Rattle.section.proofs.closing.read_states.Goals as goal

@@ -1,5 +1,4 @@
 -- `skip_morph_states` meets its contract: the items are those that it hands on. Assumes nothing.
-use borrow.Author.Rules.{rules}
 use Rattle.records.proofs.Reading.{skips-items}
 use Rattle.section.proofs.closing.skip_morph_states.Goals as goal
 

@@ -1,5 +1,4 @@
 -- `read_scroll` meets its contract: each return is where the walk goes on to or stops. Assumes nothing.
-use borrow.Author.Rules.{rules}
 use Rattle.binary.proofs.Reading.{reading}
 use Rattle.section.specs.Model.{scroll}
 use Rattle.section.proofs.display.read_scroll.Goals as goal

@@ -1,5 +1,4 @@
 -- `read_view` meets its contract: each return is where the walk goes on to or stops. Assumes nothing.
-use borrow.Author.Rules.{rules}
 use Rattle.binary.proofs.Reading.{reading}
 use Rattle.section.specs.Model.{view}
 use Rattle.section.proofs.display.read_view.Goals as goal

@@ -1,5 +1,4 @@
 -- `read_bone_keyframes` meets its contract: the items are those that it hands on. Assumes nothing.
-use borrow.Author.Rules.{rules}
 use Rattle.section.proofs.Blocks.{reads-items}
 use Rattle.section.proofs.keyframes.read_bone_keyframes.Goals as goal
 

@@ -1,5 +1,4 @@
 -- `read_keyframe_blocks` meets its contract: each return is where the walk goes on to or stops. Assumes nothing.
-use borrow.Author.Rules.{rules}
 use Rattle.section.proofs.Reading.{reading}
 use Rattle.section.specs.Model.{keyframe_blocks}
 use Rattle.section.proofs.keyframes.read_keyframe_blocks.Goals as goal

@@ -1,5 +1,4 @@
 -- `read_keyframes` meets its contract: each return is where the walk goes on to or stops. Assumes nothing.
-use borrow.Author.Rules.{rules}
 use mathlib.Core.Path.{refl}
 use Rattle.binary.proofs.Reading.{reading, skip-goes, skip-stops, count-goes, count-stops}
 use Rattle.section.specs.Model.{keyframes}

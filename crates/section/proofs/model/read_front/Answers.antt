@@ -1,5 +1,4 @@
 -- `read_front` meets its contract: each return is where the walk goes on to or stops. Assumes nothing.
-use borrow.Author.Rules.{rules}
 use Rattle.section.proofs.Reading.{reading}
 use Rattle.section.specs.Model.{front}
 use Rattle.section.proofs.model.read_front.Goals as goal

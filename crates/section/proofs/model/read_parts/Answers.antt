@@ -1,5 +1,4 @@
 -- `read_parts` meets its contract: each return is where the walk goes on to or stops. Assumes nothing.
-use borrow.Author.Rules.{rules}
 use mathlib.Core.Path.{sym, ap, ◌∙◌}
 use Rattle.section.specs.Answers.{front_read}
 use Rattle.section.proofs.Facts.{front_fits}

@@ -1,5 +1,4 @@
 -- `read_counts` meets its contract: each return is where the walk goes on to or stops. Assumes nothing.
-use borrow.Author.Rules.{rules}
 use Rattle.section.proofs.Reading.{reading}
 use Rattle.section.specs.Model.{counts}
 use Rattle.section.proofs.names.read_counts.Goals as goal

@@ -1,5 +1,4 @@
 -- `read_entries` meets its contract: each return is where the walk goes on to or stops. Assumes nothing.
-use borrow.Author.Rules.{rules}
 use Rattle.binary.proofs.Reading.{reading}
 use Rattle.section.specs.Model.{entries}
 use Rattle.section.proofs.names.read_entries.Goals as goal

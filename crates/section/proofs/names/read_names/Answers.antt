@@ -1,5 +1,4 @@
 -- `read_names` meets its contract: each return is where the walk goes on to or stops. Assumes nothing.
-use borrow.Author.Rules.{rules}
 use Rattle.binary.proofs.Reading.{reading}
 use Rattle.section.specs.Model.{names}
 use Rattle.section.proofs.names.read_names.Goals as goal

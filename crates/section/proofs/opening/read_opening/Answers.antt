@@ -1,5 +1,4 @@
 -- `read_opening` meets its contract: each return is where the walk goes on to or stops. Assumes nothing.
-use borrow.Author.Rules.{rules}
 use Rattle.binary.proofs.Reading.{reading}
 use Rattle.section.specs.Model.{opening}
 use Rattle.section.proofs.opening.read_opening.Goals as goal

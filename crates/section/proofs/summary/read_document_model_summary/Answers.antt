@@ -3,7 +3,6 @@ use mathlib.Core.Path.{ap}
 use Rattle.layout.specs.Walk.{answered}
 use Rattle.section.specs.Summary.{model_summary}
 use Rattle.section.proofs.Reading.{model-answers, model-declines}
-use borrow.Author.Rules.{rules}
 use Rattle.section.proofs.summary.read_document_model_summary.Goals as goal
 
 pub returns-in-Refused : goal.returns-in-Refused

@@ -1,6 +1,5 @@
 -- `selected_morph_indices` meets its contract. Assumes nothing.
 use Rattle.binary.proofs.Reading.{signed_is}
-use borrow.Author.Rules.{rules}
 use Rattle.section.specs.Summary.{indices_of}
 use Rattle.section.proofs.summary.selected_morph_indices.Goals as goal
 

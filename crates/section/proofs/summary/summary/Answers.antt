@@ -1,7 +1,6 @@
 -- `summary` meets its contract. Assumes nothing.
 use Rattle.binary.proofs.Reading.{signed_is}
 use Rattle.section.specs.Summary.{summary_of}
-use borrow.Author.Rules.{rules}
 use Rattle.section.proofs.summary.summary.Goals as goal
 
 pub returns : goal.returns

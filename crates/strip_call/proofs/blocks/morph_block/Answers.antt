@@ -2,7 +2,6 @@
 use Rattle.strip_call.specs.Blocks.{morph_block}
 use Rattle.layout.specs.Records.{size}
 use mathlib.Core.Path.{refl}
-use borrow.Author.Rules.{rules}
 use Rattle.strip_call.proofs.blocks.morph_block.Goals as goal
 
 pub returns : goal.returns

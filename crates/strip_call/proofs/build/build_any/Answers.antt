@@ -6,7 +6,6 @@ use Rattle.track_keys.specs.Tracks.{tracks_meet}
 use lib.ListN.{length}
 use mathlib.Core.Option.{none}
 use mathlib.Core.Path.{◌≡◌, sym, ap, ◌∙◌, subst}
-use borrow.Author.Rules.{rules}
 use Rattle.strip_call.proofs.build.build_any.Goals as goal
 
 pub mark-requires : goal.mark-requires

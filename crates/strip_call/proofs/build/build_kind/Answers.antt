@@ -4,7 +4,6 @@ use Rattle.chains.specs.Block.{kind_of, links}
 use Rattle.clip.specs.Scan.{scan}
 use mathlib.Core.Option.{none}
 use mathlib.Core.Path.{◌≡◌, refl}
-use borrow.Author.Rules.{rules}
 use Rattle.strip_call.proofs.build.build_kind.Goals as goal
 
 pub build_tracks-requires : goal.build_tracks-requires

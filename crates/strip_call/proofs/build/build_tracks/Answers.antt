@@ -5,7 +5,6 @@ use Rattle.strip_call.specs.declared.answer.BuiltKind.{BuiltKind}
 use Rattle.marks.specs.Rising.{AllMarked, TracksMarked}
 use Rattle.marks.specs.declared.rising.Rising.{Rising}
 use mathlib.Core.Path.{sym, ◌∙◌, subst}
-use borrow.Author.Rules.{rules}
 use Rattle.strip_call.proofs.build.build_tracks.Goals as goal
 
 pub count-requires : goal.count-requires

@@ -1,7 +1,6 @@
 -- `clear` meets its contract. Assumes nothing.
-use Rattle.strip_call.proofs.Cleared.{Clearing, clearing-length, clearing-more, cleared}
+use Rattle.strip_call.proofs.Cleared.{clearing-length, clearing-more, cleared}
 use mathlib.Core.Path.{refl}
-use Prim.Native.Nat.{◌-◌}
 use native.Mathlib.Omega.{arith}
 use Rattle.strip_call.proofs.bytes.clear.Goals as goal
 

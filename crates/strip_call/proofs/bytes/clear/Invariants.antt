@@ -1,7 +1,5 @@
-use Rattle.strip_call.proofs.Cleared.{Clearing, clearing-length, clearing-more, cleared}
-use mathlib.Core.Path.{refl}
+use Rattle.strip_call.proofs.Cleared.{Clearing}
 use Prim.Native.Nat.{◌-◌}
-use native.Mathlib.Omega.{arith}
 use Rattle.strip_call.proofs.bytes.clear.Given as goal
 
 abbrev pub invariant-loop-i : goal.invariant-loop-i

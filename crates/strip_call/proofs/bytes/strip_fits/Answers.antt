@@ -1,6 +1,5 @@
 -- `strip_fits` meets its contract: no strip is longer than its section. Assumes nothing.
 use borrow.Author.Tests.{le-leb}
-use borrow.Author.Rules.{rules}
 use lib.Dec.{leb}
 use lib.ListN.{length}
 use Rattle.strip_call.specs.Bytes.{strip_bytes}

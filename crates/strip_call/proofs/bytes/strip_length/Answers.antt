@@ -3,7 +3,6 @@ use Rattle.strip_call.proofs.Pieces.{bones-in, morphs-in, measured}
 use Prim.Native.Nat.{◌+◌, ◌≤◌}
 use lib.ListN.{length}
 use native.Mathlib.Omega.{arith}
-use borrow.Author.Rules.{rules}
 use Rattle.strip_call.proofs.bytes.strip_length.Goals as goal
 
 pub tracks_length-of_bones-requires : goal.tracks_length-of_bones-requires

@@ -3,7 +3,6 @@ use Rattle.strip_call.proofs.Pieces.{bones-in, morphs-in, measured, second_fits,
 use Rattle.strip_call.specs.Bytes.{strip_bytes}
 use Rattle.keys.specs.Placed.{Wrote}
 use native.Mathlib.Omega.{arith}
-use borrow.Author.Rules.{rules}
 use Rattle.strip_call.proofs.bytes.write_strip.Goals as goal
 
 pub write_count-requires : goal.write_count-requires

@@ -1,6 +1,5 @@
 -- `strip` meets its contract. Assumes nothing.
 use Rattle.strip_call.proofs.Called.{not-read, was_read, read-says}
-use borrow.Author.Rules.{rules}
 use Rattle.strip_call.proofs.call.strip.Goals as goal
 
 pub strip_model-requires : goal.strip_model-requires

@@ -6,7 +6,6 @@ use native.Mathlib.Omega.{arith}
 use lib.ListN.{length}
 use Rattle.strip_call.specs.Bytes.{strip_bytes}
 use Rattle.strip_call.proofs.Ended.{Ran, bones-refused, morphs-refused, readable, output-short, written-says}
-use borrow.Author.Rules.{rules}
 use Rattle.strip_call.proofs.call.strip_blocks.Goals as goal
 
 pub strip_fits-requires : goal.strip_fits-requires

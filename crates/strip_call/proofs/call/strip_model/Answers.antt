@@ -1,7 +1,6 @@
 -- `strip_model` meets its contract. Assumes nothing.
 use Rattle.strip_call.proofs.Called.{few, strippable, first_short, second_short, long-enough}
 use native.Mathlib.Omega.{arith}
-use borrow.Author.Rules.{rules}
 use Rattle.strip_call.proofs.call.strip_model.Goals as goal
 
 pub overflow_add-need : goal.overflow_add-need

@@ -3,12 +3,9 @@ use Rattle.strip_call.proofs.Clipped.{as-told, passed-all}
 use Rattle.strip_call.proofs.PartLaws.{outside-first, outside-both}
 use Rattle.strip_call.specs.Parts.{part, Outside}
 use Rattle.strip_call.specs.Building.{Passed}
-use Rattle.chains.specs.declared.block.Block.{Block}
-use Prim.Native.Nat.{ℕ, ◌+◌, ◌≤◌}
-use mathlib.Core.List.{List}
+use Prim.Native.Nat.{◌+◌, ◌≤◌}
 use mathlib.Core.Path.{refl}
 use native.Mathlib.Omega.{arith}
-use borrow.Author.Rules.{rules}
 use Rattle.strip_call.proofs.clip_build.build_clip.Goals as goal
 
 pub overflow_add-result : goal.overflow_add-result

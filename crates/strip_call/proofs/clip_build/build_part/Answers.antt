@@ -6,7 +6,6 @@ use borrow.Rule.Slice.PartMut.{put_mid}
 use mathlib.Core.Path.{sym, ◌∙◌, subst}
 use mathlib.Core.List.{List}
 use Prim.Native.Nat.{ℕ, ◌+◌, ◌-◌}
-use borrow.Author.Rules.{rules}
 use Rattle.strip_call.proofs.clip_build.build_part.Goals as goal
 
 pub returns : goal.returns

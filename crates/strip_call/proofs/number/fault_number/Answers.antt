@@ -1,5 +1,4 @@
 -- `fault_number` meets its contract, fault by fault. Assumes nothing.
-use borrow.Author.Rules.{rules}
 use Rattle.strip_call.proofs.number.fault_number.Goals as goal
 
 pub returns-in-NegativeIndex : goal.returns-in-NegativeIndex

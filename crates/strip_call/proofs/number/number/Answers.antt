@@ -3,7 +3,6 @@ use mathlib.Core.Path.{ap, sym, ◌∙◌}
 use Rattle.clip.specs.Fields.{bone, morph}
 use Rattle.strip_call.specs.Answers.{refusal_read}
 use Rattle.strip_call.specs.declared.answer.StripRefusal.{StripRefusal}
-use borrow.Author.Rules.{rules}
 use Rattle.strip_call.proofs.number.number.Goals as goal
 
 pub returns-in-Bones : goal.returns-in-Bones

@@ -1,6 +1,5 @@
 -- `limdroven_strip` meets its contract. Assumes nothing.
 use Rattle.strip_export.proofs.Told.{leaves-built, leaves-refused}
-use borrow.Author.Rules.{rules}
 use Rattle.strip_export.proofs.call.limdroven_strip.Goals as goal
 
 pub returns-in-Refused : goal.returns-in-Refused

@@ -1,6 +1,5 @@
 -- `not_read` meets its contract. Assumes nothing.
 use Rattle.strip_export.proofs.Told.{place}
-use borrow.Author.Rules.{rules}
 use Rattle.strip_export.proofs.call.not_read.Goals as goal
 
 pub returns : goal.returns

@@ -2,7 +2,6 @@
 use mathlib.Core.Path.{refl}
 use Rattle.strip_call.specs.Answers.{refusal_read}
 use Rattle.strip_export.proofs.Told.{told}
-use borrow.Author.Rules.{rules}
 use Rattle.strip_export.proofs.call.refused.Goals as goal
 
 pub returns-in-Reading : goal.returns-in-Reading

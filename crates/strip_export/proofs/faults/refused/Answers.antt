@@ -2,7 +2,6 @@
 use mathlib.Core.Path.{refl}
 use Rattle.chains.specs.Fault.{fault_of}
 use Rattle.strip_export.proofs.Told.{told}
-use borrow.Author.Rules.{rules}
 use Rattle.strip_export.proofs.faults.refused.Goals as goal
 
 pub returns-in-NegativeIndex : goal.returns-in-NegativeIndex

@@ -1,7 +1,6 @@
 -- `put_index` meets its contract: each number is made by a call. Assumes nothing.
 use mathlib.Core.Path.{refl}
 use Rattle.numbers.proofs.Putting.{same, also}
-use borrow.Author.Rules.{rules}
 use Rattle.strip_export.proofs.values.put_index.Goals as goal
 
 pub returns : goal.returns

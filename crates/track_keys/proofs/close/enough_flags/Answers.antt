@@ -1,6 +1,5 @@
 -- `enough_flags` meets its contract. Assumes nothing.
 use native.Mathlib.Omega.{arith}
-use borrow.Author.Rules.{rules}
 use borrow.Author.Tests.{ltb-true}
 use Rattle.track_keys.proofs.close.enough_flags.Goals as goal
 

@@ -1,10 +1,8 @@
 -- `flagged_again` meets its contract: the frames of the keys passed are different, and their flags are up. Assumes nothing.
-use Prim.Native.Nat.{◌-◌}
 use native.Mathlib.Omega.{arith}
 use mathlib.Core.Path.{◌∙◌}
-use borrow.Author.Rules.{rules}
 use Rattle.track_keys.proofs.Followed.{follow-none, follow-absent, follow-below}
-use Rattle.track_keys.proofs.CloseFrames.{Flagged, first-spanned, flags-start, record-spanned, flags-met, flags-more}
+use Rattle.track_keys.proofs.CloseFrames.{first-spanned, flags-start, record-spanned, flags-met, flags-more}
 use Rattle.track_keys.proofs.close.flagged_again.Goals as goal
 
 pub first_frame-first-requires : goal.first_frame-first-requires

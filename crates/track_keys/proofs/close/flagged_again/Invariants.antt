@@ -1,9 +1,5 @@
 use Prim.Native.Nat.{◌-◌}
-use native.Mathlib.Omega.{arith}
-use mathlib.Core.Path.{◌∙◌}
-use borrow.Author.Rules.{rules}
-use Rattle.track_keys.proofs.Followed.{follow-none, follow-absent, follow-below}
-use Rattle.track_keys.proofs.CloseFrames.{Flagged, first-spanned, flags-start, record-spanned, flags-met, flags-more}
+use Rattle.track_keys.proofs.CloseFrames.{Flagged}
 use Rattle.track_keys.proofs.close.flagged_again.Given as goal
 
 abbrev pub invariant-loop-i : goal.invariant-loop-i

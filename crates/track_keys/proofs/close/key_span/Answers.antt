@@ -1,8 +1,6 @@
 -- `key_span` meets its contract: the frames of the keys passed lie within the span. Assumes nothing.
-use Prim.Native.Nat.{◌-◌, ◌≤◌}
 use native.Mathlib.Omega.{arith}
 use mathlib.Core.Path.{◌≡◌, subst}
-use borrow.Author.Rules.{rules}
 use lib.ListN.{length}
 use Rattle.chains.specs.Block.{links}
 use Rattle.track_keys.specs.Tracks.{frames_of}

@@ -1,12 +1,8 @@
 use Prim.Native.Nat.{◌-◌, ◌≤◌}
-use native.Mathlib.Omega.{arith}
-use mathlib.Core.Path.{◌≡◌, subst}
-use borrow.Author.Rules.{rules}
 use lib.ListN.{length}
 use Rattle.chains.specs.Block.{links}
 use Rattle.track_keys.specs.Tracks.{frames_of}
 use Rattle.track_keys.specs.Close.{Spans}
-use Rattle.track_keys.proofs.CloseFrames.{spans-one, spans-ordered, spans-more}
 use Rattle.track_keys.proofs.close.key_span.Given as goal
 
 abbrev pub invariant-loop-i : goal.invariant-loop-i

@@ -1,6 +1,5 @@
 -- `in_any_order` meets its contract: flags are used where every key's frame has one. Assumes nothing.
 use mathlib.Core.Path.{ap}
-use borrow.Author.Rules.{rules}
 use lib.ListN.{length}
 use Rattle.track_keys.proofs.ChainFrames.{held_below}
 use Rattle.track_keys.proofs.CloseFrames.{spans-ordered, held-spans}

@@ -1,5 +1,4 @@
 -- `list_again` meets its contract: the walk lists the chain. Assumes nothing.
-use borrow.Author.Rules.{rules}
 use Rattle.track_keys.proofs.ListedChain.{walked-again}
 use Rattle.track_keys.proofs.frames.list_again.Goals as goal
 

@@ -1,12 +1,10 @@
 -- `met_again` meets its contract: the frames of the keys passed are different, and marked in the list. Assumes nothing.
-use Prim.Native.Nat.{◌-◌}
 use native.Mathlib.Omega.{arith}
 use mathlib.Core.Path.{◌∙◌, ap}
-use borrow.Author.Rules.{rules}
 use lib.ListN.{length}
 use mathlib.Core.Bool.{not}
 use Rattle.track_keys.proofs.Followed.{follow-none, follow-absent, follow-below}
-use Rattle.track_keys.proofs.Again.{Again, again-starts, again-rise, again-long, again-first, again-met, again-more}
+use Rattle.track_keys.proofs.Again.{again-starts, again-rise, again-long, again-first, again-met, again-more}
 use Rattle.track_keys.proofs.ChainFrames.{frame-field, held_below, held-once, held-apart}
 use Rattle.track_keys.proofs.frames.met_again.Goals as goal
 

@@ -1,8 +1,6 @@
 -- `rising` meets its contract: the frames of the keys passed rise. Assumes nothing.
-use Prim.Native.Nat.{◌-◌}
 use native.Mathlib.Omega.{arith}
 use mathlib.Core.Path.{◌≡◌, subst}
-use borrow.Author.Rules.{rules}
 use lib.ListN.{take}
 use Rattle.chains.specs.Block.{links}
 use Rattle.track_keys.specs.Tracks.{frames_of}

@@ -1,14 +1,9 @@
 use Prim.Native.Nat.{◌-◌}
-use native.Mathlib.Omega.{arith}
-use mathlib.Core.Path.{◌≡◌, subst}
-use borrow.Author.Rules.{rules}
+use mathlib.Core.Path.{◌≡◌}
 use lib.ListN.{take}
 use Rattle.chains.specs.Block.{links}
 use Rattle.track_keys.specs.Tracks.{frames_of}
 use Rattle.track_keys.specs.Frames.{Rising}
-use Rattle.track_keys.proofs.ListedChain.{listed_below}
-use Rattle.track_keys.proofs.ChainFrames.{rising-record}
-use Rattle.track_keys.proofs.FirstRepeats.{rising-starts}
 use Rattle.track_keys.proofs.frames.rising.Given as goal
 
 abbrev pub invariant-loop-i : goal.invariant-loop-i

@@ -8,7 +8,6 @@ use Rattle.keys.specs.Answers.{asked_read}
 use Rattle.keys.proofs.Asking.{weight-fine}
 use Rattle.chains.specs.Block.{body_size}
 use Rattle.chains.specs.declared.block.Kind.{Kind}
-use borrow.Author.Rules.{rules}
 use Rattle.track_keys.proofs.key.body_fine.Goals as goal
 
 pub bone_asked-requires : goal.bone_asked-requires

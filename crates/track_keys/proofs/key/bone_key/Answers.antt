@@ -1,12 +1,8 @@
 -- `bone_key` meets its contract. Assumes nothing.
-use mathlib.Core.Path.{◌≡◌, sym, ap, ◌∙◌}
-use Rattle.clip.specs.Keys.{body_refusal}
+use mathlib.Core.Path.{sym, ap, ◌∙◌}
 use Rattle.keys.specs.Answers.{asked_read}
-use Rattle.keys.specs.declared.pose.Asked.{Asked}
-use Rattle.track_keys.specs.Keys.{key_meets}
 use Rattle.chains.specs.declared.block.Kind.{Kind}
 use Rattle.track_keys.proofs.OneKey.{frame_refused, body-asked}
-use borrow.Author.Rules.{rules}
 use Rattle.track_keys.proofs.key.bone_key.Goals as goal
 
 pub returns-in-Refused : goal.returns-in-Refused

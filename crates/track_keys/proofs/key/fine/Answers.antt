@@ -4,7 +4,6 @@ use mathlib.Core.Path.{◌≡◌}
 use native.Mathlib.Omega.{arith}
 use borrow.Author.Tests.{lt-leb}
 use Rattle.track_keys.proofs.OneKey.{fine-key}
-use borrow.Author.Rules.{rules}
 use Rattle.track_keys.proofs.key.fine.Goals as goal
 
 pub returns-then-frame-ge2147483648 : goal.returns-then-frame-ge2147483648

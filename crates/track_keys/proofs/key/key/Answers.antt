@@ -5,7 +5,6 @@ use lib.ListN.{length}
 use Rattle.chains.specs.Block.{body_size}
 use Rattle.chains.specs.declared.block.Kind.{Kind}
 use Rattle.track_keys.proofs.OneKey.{key-fine, key-refused}
-use borrow.Author.Rules.{rules}
 use Rattle.track_keys.proofs.key.key.Goals as goal
 
 pub bone_key-requires : goal.bone_key-requires

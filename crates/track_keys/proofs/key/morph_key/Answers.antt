@@ -4,7 +4,6 @@ use Rattle.clip.specs.Keys.{weight_asked}
 use Rattle.keys.proofs.Asking.{weight-fine, refused-14}
 use Rattle.chains.specs.declared.block.Kind.{Kind}
 use Rattle.track_keys.proofs.OneKey.{frame_refused, body-asked, key-told, refusal-told}
-use borrow.Author.Rules.{rules}
 use Rattle.track_keys.proofs.key.morph_key.Goals as goal
 
 pub returns-in-Refused : goal.returns-in-Refused

@@ -7,7 +7,6 @@ use mathlib.Core.Path.{ap, ◌∙◌}
 use mathlib.Core.Bool.{false}
 use Prim.Native.Nat.{ℕ}
 use native.Mathlib.Omega.{arith}
-use borrow.Author.Rules.{rules}
 use Rattle.track_keys.proofs.ready.initial_key.Goals as goal
 
 pub key-requires : goal.key-requires

@@ -6,7 +6,6 @@ use Rattle.chains.specs.Fault.{fault_of}
 use Rattle.chains.specs.Block.{kind_of}
 use mathlib.Core.Path.{refl, ◌∙◌}
 use native.Mathlib.Omega.{arith}
-use borrow.Author.Rules.{rules}
 use Rattle.track_keys.proofs.ready.make_ready.Goals as goal
 
 pub walk-requires : goal.walk-requires

@@ -1,12 +1,10 @@
 -- `all_tracks` meets its contract. Assumes nothing.
-use Rattle.track_keys.proofs.Asking.{Tracking, Asking, Ready-track, keyed, refused, asking, position-below, record-refused, asking-more, tracking-more, tracked-all}
+use Rattle.track_keys.proofs.Asking.{Ready-track, keyed, refused, asking, position-below, record-refused, asking-more, tracking-more, tracked-all}
 use Rattle.track_keys.proofs.Meets.{all_meet}
 use Rattle.clip.specs.First.{first}
 use lib.ListN.{length}
-use mathlib.Core.List.{List}
 use mathlib.Core.Path.{◌≡◌, refl, ◌∙◌}
-use Prim.Native.Nat.{ℕ, ◌-◌, ◌≤◌}
-use borrow.Author.Rules.{rules}
+use Prim.Native.Nat.{◌≤◌}
 use native.Mathlib.Omega.{arith}
 use Rattle.track_keys.proofs.tracks.all_tracks.Goals as goal
 

@@ -6,7 +6,6 @@ use Rattle.clip.specs.Section.{additional_at}
 use mathlib.Core.Path.{ap, ◌∙◌}
 use Prim.Native.Nat.{ℕ}
 use native.Mathlib.Omega.{arith}
-use borrow.Author.Rules.{rules}
 use Rattle.track_keys.proofs.tracks.record_key.Goals as goal
 
 pub key-requires : goal.key-requires

@@ -5,7 +5,6 @@ use Rattle.lists.proofs.Handed.{handed}
 use Rattle.tracks.specs.Camera.{curves_part}
 use Rattle.tracks.specs.Answers.{camera_keyframe_read}
 use Rattle.tracks.specs.declared.camera.CameraKeyframeSummary.{CameraKeyframeSummary}
-use borrow.Author.Rules.{rules}
 use Rattle.tracks.proofs.camera.camera_interpolation.Goals as goal
 
 pub returns-in-Refused : goal.returns-in-Refused

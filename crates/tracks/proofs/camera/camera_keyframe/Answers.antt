@@ -2,7 +2,6 @@
 use mathlib.Core.Path.{refl}
 use Rattle.layout.proofs.Entries.{unlocated, unread, read-entry}
 use Rattle.tracks.specs.Answers.{located_read, camera_read}
-use borrow.Author.Rules.{rules}
 use Rattle.tracks.proofs.camera.camera_keyframe.Goals as goal
 
 pub returns-in-Refused : goal.returns-in-Refused

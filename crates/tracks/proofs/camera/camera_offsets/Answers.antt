@@ -1,7 +1,6 @@
 -- `camera_offsets` meets its contract: each field is made by a call or is the record's own. Assumes nothing.
 use Rattle.layout.specs.Records.{size}
 use Rattle.tracks.specs.Camera.{offsets_of}
-use borrow.Author.Rules.{rules}
 use Rattle.tracks.proofs.camera.camera_offsets.Goals as goal
 
 pub returns : goal.returns

@@ -1,7 +1,6 @@
 -- `camera_summary` meets its contract: each field is made by a call or is the record's own. Assumes nothing.
 use Rattle.binary.proofs.Reading.{signed_is}
 use Rattle.tracks.specs.Camera.{camera_of}
-use borrow.Author.Rules.{rules}
 use Rattle.tracks.proofs.camera.camera_summary.Goals as goal
 
 pub returns : goal.returns

@@ -1,5 +1,4 @@
 -- `read_camera` meets its contract: each return is where the walk goes on to or stops. Assumes nothing.
-use borrow.Author.Rules.{rules}
 use Rattle.tracks.proofs.Reading.{reading}
 use Rattle.tracks.specs.Camera.{camera_bits}
 use Rattle.tracks.proofs.camera.read_camera.Goals as goal

@@ -1,5 +1,4 @@
 -- `read_lens` meets its contract: each return is where the walk goes on to or stops. Assumes nothing.
-use borrow.Author.Rules.{rules}
 use Rattle.tracks.proofs.Reading.{reading}
 use Rattle.tracks.specs.Camera.{lens_bits}
 use Rattle.tracks.proofs.camera.read_lens.Goals as goal

@@ -3,7 +3,6 @@ use Prim.Native.Nat.{ℕ}
 use mathlib.Core.List.{List, [], ◌∷◌, ◌++◌, append_assoc}
 use mathlib.Core.Path.{sym, ap, ◌∙◌}
 use lib.ListN.{replicate, replicate-append-replicate}
-use borrow.Author.Rules.{rules}
 use Rattle.tracks.proofs.items.camera_items.Goals as goal
 
 pub returns : goal.returns

@@ -4,7 +4,6 @@ use mathlib.Core.Path.{sym, ap, ◌∙◌}
 use lib.ListN.{replicate}
 use Rattle.tracks.specs.Track.{items_of}
 use Rattle.tracks.specs.declared.track.Kind.{Kind}
-use borrow.Author.Rules.{rules}
 use Rattle.tracks.proofs.items.record_items.Goals as goal
 
 pub returns-in-Camera : goal.returns-in-Camera

@@ -2,7 +2,6 @@
 use mathlib.Core.Path.{refl}
 use Rattle.layout.proofs.Entries.{unlocated, unread, read-entry}
 use Rattle.tracks.specs.Answers.{located_read, light_read}
-use borrow.Author.Rules.{rules}
 use Rattle.tracks.proofs.light.light_keyframe.Goals as goal
 
 pub returns-in-Refused : goal.returns-in-Refused

@@ -1,7 +1,6 @@
 -- `light_summary` meets its contract: each field is made by a call or is the record's own. Assumes nothing.
 use Rattle.layout.specs.Records.{size}
 use Rattle.tracks.specs.Light.{light_of}
-use borrow.Author.Rules.{rules}
 use Rattle.tracks.proofs.light.light_summary.Goals as goal
 
 pub returns : goal.returns

@@ -1,5 +1,4 @@
 -- `read_light` meets its contract: each return is where the walk goes on to or stops. Assumes nothing.
-use borrow.Author.Rules.{rules}
 use Rattle.tracks.proofs.Reading.{reading}
 use Rattle.tracks.specs.Light.{light_bits}
 use Rattle.tracks.proofs.light.read_light.Goals as goal

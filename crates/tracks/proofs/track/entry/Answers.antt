@@ -3,7 +3,6 @@ use mathlib.Core.Path.{ap}
 use Rattle.lists.specs.Lists.{listed}
 use Rattle.lists.proofs.Reading.{same-entry}
 use Rattle.tracks.specs.Track.{track_entries}
-use borrow.Author.Rules.{rules}
 use Rattle.tracks.proofs.track.entry.Goals as goal
 
 pub returns-then-include_index : goal.returns-then-include_index

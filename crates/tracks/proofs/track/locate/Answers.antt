@@ -4,7 +4,6 @@ use Rattle.layout.proofs.Steps.{goes, stops}
 use Rattle.lists.proofs.Reading.{entry-goes, entry-stops}
 use Rattle.tracks.specs.Track.{locate}
 use Rattle.tracks.specs.Answers.{track_read}
-use borrow.Author.Rules.{rules}
 use Rattle.tracks.proofs.track.locate.Goals as goal
 
 pub returns-in-Refused : goal.returns-in-Refused

@@ -4,7 +4,6 @@ use Rattle.layout.specs.Walk.{answered}
 use Rattle.layout.proofs.Steps.{answers, declines}
 use Rattle.tracks.specs.Track.{track_summary}
 use Rattle.tracks.specs.Answers.{track_read}
-use borrow.Author.Rules.{rules}
 use Rattle.tracks.proofs.track.read_summary.Goals as goal
 
 pub returns-in-Refused : goal.returns-in-Refused

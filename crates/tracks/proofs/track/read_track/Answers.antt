@@ -1,5 +1,4 @@
 -- `read_track` meets its contract: each return is where the walk goes on to or stops. Assumes nothing.
-use borrow.Author.Rules.{rules}
 use Rattle.section.proofs.Reading.{reading}
 use Rattle.tracks.specs.Track.{track_section}
 use Rattle.tracks.proofs.track.read_track.Goals as goal

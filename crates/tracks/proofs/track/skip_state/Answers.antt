@@ -1,5 +1,4 @@
 -- `skip_state` meets its contract. Assumes nothing.
-use borrow.Author.Rules.{rules}
 use Rattle.tracks.proofs.track.skip_state.Goals as goal
 
 pub returns : goal.returns

@@ -1,7 +1,6 @@
 -- `summary` meets its contract. Assumes nothing.
 use mathlib.Core.Path.{refl}
 use Rattle.tracks.specs.Track.{track_of}
-use borrow.Author.Rules.{rules}
 use Rattle.tracks.proofs.track.summary.Goals as goal
 
 pub returns : goal.returns

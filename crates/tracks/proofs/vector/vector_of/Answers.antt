@@ -1,6 +1,5 @@
 -- `vector_of` meets its contract: each field is made by a call or is the record's own. Assumes nothing.
 use Rattle.tracks.specs.Vector.{vector_of}
-use borrow.Author.Rules.{rules}
 use Rattle.tracks.proofs.vector.vector_of.Goals as goal
 
 pub returns : goal.returns

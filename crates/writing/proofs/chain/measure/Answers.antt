@@ -1,9 +1,6 @@
 -- `measure` meets its contract: in each turn the next record of the chain is counted. Assumes nothing.
 use native.Mathlib.Omega.{arith}
-use lib.ListN.{length}
-use Prim.Native.Nat.{◌-◌}
-use Rattle.writing.specs.Tracks.{chain_at}
-use Rattle.writing.proofs.Measuring.{Measures, measured-none, measured-few, measured-fits, measured-more, measured-all}
+use Rattle.writing.proofs.Measuring.{measured-none, measured-few, measured-fits, measured-more, measured-all}
 use Rattle.writing.proofs.Following.{Ending, borne, inside, more}
 use Rattle.writing.proofs.chain.measure.Goals as goal
 

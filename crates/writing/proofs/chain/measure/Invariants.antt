@@ -1,9 +1,7 @@
-use native.Mathlib.Omega.{arith}
 use lib.ListN.{length}
 use Prim.Native.Nat.{◌-◌}
 use Rattle.writing.specs.Tracks.{chain_at}
-use Rattle.writing.proofs.Measuring.{Measures, measured-none, measured-few, measured-fits, measured-more, measured-all}
-use Rattle.writing.proofs.Following.{Ending, borne, inside, more}
+use Rattle.writing.proofs.Measuring.{Measures}
 use Rattle.writing.proofs.chain.measure.Given as goal
 
 abbrev pub invariant-loop-link : goal.invariant-loop-link

@@ -1,6 +1,5 @@
 -- `position` meets its contract: the link is borne, so the search finds its record. Assumes nothing.
 use Rattle.writing.proofs.Following.{found_at, found_none}
-use borrow.Author.Rules.{rules}
 use Rattle.writing.proofs.chain.position.Goals as goal
 
 pub returns-in-At : goal.returns-in-At

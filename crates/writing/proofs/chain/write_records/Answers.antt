@@ -1,9 +1,6 @@
 -- `write_records` meets its contract: in each turn the key of the next record of the chain is written. Assumes nothing.
 use native.Mathlib.Omega.{arith}
-use lib.ListN.{length}
-use Prim.Native.Nat.{◌-◌}
-use Rattle.writing.specs.Tracks.{chain_at}
-use Rattle.writing.proofs.Filling.{Fills, filled_none, filled-few, filled-length, filled-room, filled_more, filled-all}
+use Rattle.writing.proofs.Filling.{filled_none, filled-few, filled-length, filled-room, filled_more, filled-all}
 use Rattle.writing.proofs.Following.{Ending, borne, inside, more, ends}
 use Rattle.writing.proofs.chain.write_records.Goals as goal
 

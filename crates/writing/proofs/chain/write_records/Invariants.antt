@@ -1,9 +1,7 @@
-use native.Mathlib.Omega.{arith}
 use lib.ListN.{length}
 use Prim.Native.Nat.{◌-◌}
 use Rattle.writing.specs.Tracks.{chain_at}
-use Rattle.writing.proofs.Filling.{Fills, filled_none, filled-few, filled-length, filled-room, filled_more, filled-all}
-use Rattle.writing.proofs.Following.{Ending, borne, inside, more, ends}
+use Rattle.writing.proofs.Filling.{Fills}
 use Rattle.writing.proofs.chain.write_records.Given as goal
 
 abbrev pub invariant-loop-link : goal.invariant-loop-link

@@ -6,7 +6,6 @@ use mathlib.Core.List.{List}
 use lib.ListN.{length}
 use Rattle.chains.specs.Block.{body_size}
 use Rattle.writing.proofs.OfKind.{bone-key, morph-key}
-use borrow.Author.Rules.{rules}
 use Rattle.writing.proofs.key.key_length.Goals as goal
 
 pub bone_key_length-requires : goal.bone_key_length-requires

@@ -5,7 +5,6 @@ use Rattle.clip.specs.Build.{record_key}
 use Rattle.chains.specs.Block.{links}
 use Rattle.chains.proofs.Places.{record-fits}
 use Rattle.writing.proofs.OfKind.{length-is}
-use borrow.Author.Rules.{rules}
 use Rattle.writing.proofs.key.record_length.Goals as goal
 
 pub key_length-requires : goal.key_length-requires

@@ -5,7 +5,6 @@ use Rattle.clip.specs.Build.{initial_key}
 use Rattle.chains.specs.Block.{links}
 use Rattle.chains.proofs.Places.{initial-fits}
 use Rattle.writing.proofs.OfKind.{key-is}
-use borrow.Author.Rules.{rules}
 use Rattle.writing.proofs.key.write_initial.Goals as goal
 
 pub write_key-requires : goal.write_key-requires

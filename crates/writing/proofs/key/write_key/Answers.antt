@@ -5,7 +5,6 @@ use mathlib.Core.Path.{subst}
 use lib.ListN.{length}
 use Rattle.chains.specs.Block.{body_size}
 use Rattle.writing.proofs.OfKind.{bone-key, morph-key}
-use borrow.Author.Rules.{rules}
 use Rattle.writing.proofs.key.write_key.Goals as goal
 
 pub write_bone_key-requires : goal.write_bone_key-requires

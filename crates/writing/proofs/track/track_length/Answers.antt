@@ -6,7 +6,6 @@ use lib.ListN.{length}
 use Rattle.writing.specs.Tracks.{chain_at, initial_bytes, records_bytes, strip_track}
 use Rattle.writing.proofs.Sums.{track-long}
 use Rattle.writing.proofs.Measuring.{track-fits}
-use borrow.Author.Rules.{rules}
 use Rattle.writing.proofs.track.track_length.Goals as goal
 
 pub overflow_add-result : goal.overflow_add-result

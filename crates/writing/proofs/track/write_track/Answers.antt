@@ -2,7 +2,6 @@
 use native.Mathlib.Omega.{arith}
 use Rattle.writing.proofs.Following.{chain-most}
 use Rattle.writing.proofs.OneTrack.{initial-room, records-room, count_room, track-wrote}
-use borrow.Author.Rules.{rules}
 use Rattle.writing.proofs.track.write_track.Goals as goal
 
 pub overflow_add-place : goal.overflow_add-place

@@ -1,7 +1,6 @@
 -- `tracks_length` meets its contract: in each turn one track more is measured. Assumes nothing.
 use native.Mathlib.Omega.{arith}
-use Prim.Native.Nat.{◌-◌}
-use Rattle.writing.proofs.Measuring.{Counted, counted_none, counted-more, counted-all, tracks-fit, track-fits}
+use Rattle.writing.proofs.Measuring.{counted_none, counted-more, counted-all, tracks-fit, track-fits}
 use Rattle.writing.proofs.tracks.tracks_length.Goals as goal
 
 pub loop-track-init : goal.loop-track-init

@@ -1,6 +1,5 @@
-use native.Mathlib.Omega.{arith}
 use Prim.Native.Nat.{◌-◌}
-use Rattle.writing.proofs.Measuring.{Counted, counted_none, counted-more, counted-all, tracks-fit, track-fits}
+use Rattle.writing.proofs.Measuring.{Counted}
 use Rattle.writing.proofs.tracks.tracks_length.Given as goal
 
 abbrev pub invariant-loop-track : goal.invariant-loop-track

@@ -1,7 +1,6 @@
 -- `write_tracks` meets its contract: in each turn one track more is written. Assumes nothing.
 use native.Mathlib.Omega.{arith}
-use Prim.Native.Nat.{◌-◌}
-use Rattle.writing.proofs.Filling.{Filled, tracks-none, tracks-room, tracks-more, tracks-length, tracks-all}
+use Rattle.writing.proofs.Filling.{tracks-none, tracks-room, tracks-more, tracks-length, tracks-all}
 use Rattle.writing.proofs.tracks.write_tracks.Goals as goal
 
 pub loop-track-init : goal.loop-track-init

@@ -1,6 +1,5 @@
-use native.Mathlib.Omega.{arith}
 use Prim.Native.Nat.{◌-◌}
-use Rattle.writing.proofs.Filling.{Filled, tracks-none, tracks-room, tracks-more, tracks-length, tracks-all}
+use Rattle.writing.proofs.Filling.{Filled}
 use Rattle.writing.proofs.tracks.write_tracks.Given as goal
 
 abbrev pub invariant-loop-track : goal.invariant-loop-track

@@ -1,28 +1,16 @@
 // Reads every truncation of one model section and compares each place of refusal 1 with the widths of the section's items, which
 // come from oracle/truncations.py and from no reader.
 #![tactic(auto)]
+
 ghost use Rattle.std.specs.Prelude.{◌≤◌, length};
 
 use binary::counts::Refusal;
-use libc::STDOUT_FILENO;
 use section::summary;
 use section::summary::ModelSummary;
+use std::io;
 
 // Where the section starts in its file.
 const START: usize = 3;
-
-fn load(path: &[u8], buf: &mut [u8]) -> usize
-    ensures { result ≤ length buf.new }
-{
-    let fd = os::open_read(path);
-    if fd < 0 {
-        os::fail(path);
-        return 0;
-    }
-    let n = io::read_full(fd, buf);
-    libc::close(fd);
-    n
-}
 
 fn joined(low: u8, high: u8) -> usize {
     (low as usize) + 256 * (high as usize)
@@ -100,27 +88,26 @@ fn wrong_places(file: &[u8], widths: &[u8]) -> u64 {
     wrong
 }
 
-fn say(what: &[u8], n: u64) {
-    io::write_all(STDOUT_FILENO, what);
-    io::print_decimal(STDOUT_FILENO, n);
-    io::write_all(STDOUT_FILENO, b"\n");
+fn say(rt: &impl Print, what: &str, n: u64) -> io::Result<()> {
+    println!(rt; "{what}{n}")
 }
 
-fn main() {
-    let mut file_space = io::buffer();
-    let mut widths_space = io::buffer();
-    let file_length = load(b"section", &mut file_space);
-    let widths_length = load(b"widths", &mut widths_space);
+fn main(rt: HostRuntime) -> io::Result<()> {
+    let mut file_space = [0u8; 4096];
+    let mut widths_space = [0u8; 4096];
+    let file_length = files::load(&rt, "section", &mut file_space)?;
+    let widths_length = files::load(&rt, "widths", &mut widths_space)?;
     let file = &file_space[0..file_length];
     let widths = &widths_space[0..widths_length];
-    say(b"truncations ", file.len() as u64);
-    say(b"wrong ", wrong_places(file, widths));
+    say(&rt, "truncations ", file.len() as u64)?;
+    say(&rt, "wrong ", wrong_places(file, widths))?;
     if first_lacking(widths, file.len()) == file.len() {
         if ends_at(
             summary::read_document_model_summary(file, START),
             file.len(),
         ) {
-            io::write_all(STDOUT_FILENO, b"whole: read to its end\n");
+            println!(rt; "whole: read to its end")?;
         }
     }
+    Ok(())
 }

@@ -1,6 +1,8 @@
 // The sections of a file, one after the other, each with its checks.
 use crate::{fields, tally};
-use libc::STDOUT_FILENO;
+use std::io;
+use std::io::Read;
+use std::rt::Files;
 
 // The section that stands in the space lent for it, and its check that comes next.
 #[derive(Clone, Copy)]
@@ -37,52 +39,59 @@ fn size(n: u64) -> usize {
     n as usize
 }
 
-fn fill(fd: i32, section: &mut [u8], checks: &mut [u8]) {
-    io::read_full(fd, section);
-    io::read_full(fd, checks);
+// Where the file ends early the places behind keep what they held.
+fn fill(file: &mut impl Read, section: &mut [u8], checks: &mut [u8]) -> io::Result<()> {
+    files::read_full(file, section)?;
+    files::read_full(file, checks)?;
+    Ok(())
 }
 
 // The section that comes next in the file, counted. One that is longer than the space for it ends the file.
-fn next_section(fd: i32, section: &mut [u8], checks: &mut [u8], tally: &mut [u64; 64]) -> Place {
+fn next_section(
+    file: &mut impl Read,
+    section: &mut [u8],
+    checks: &mut [u8],
+    tally: &mut [u64; 64],
+) -> io::Result<Place> {
     let mut head = [0u8; 16];
-    if io::read_full(fd, &mut head) < 16 {
-        return end();
+    if files::read_full(file, &mut head)? < 16 {
+        return Ok(end());
     }
     let section_length = size(fields::u32_at(&head, 8));
     let checks_length = size(fields::u32_at(&head, 12));
     if section.len() < section_length {
-        return end();
+        return Ok(end());
     }
     if checks.len() < checks_length {
-        return end();
+        return Ok(end());
     }
     fill(
-        fd,
+        file,
         &mut section[0..section_length],
         &mut checks[0..checks_length],
-    );
+    )?;
     tally::add(tally, tally::SECTIONS);
-    Place {
+    Ok(Place {
         ended: false,
         start: size(fields::u64_at(&head, 0)),
         section_length,
         checks_length,
         at: 0,
-    }
+    })
 }
 
 // The check at the place or, where none is left of its section, the first one of the next section. Every section has one.
 pub fn next_check(
-    fd: i32,
+    file: &mut impl Read,
     section: &mut [u8],
     checks: &mut [u8],
     place: Place,
     tally: &mut [u64; 64],
-) -> Place {
+) -> io::Result<Place> {
     if place.at < place.checks_length {
-        return place;
+        return Ok(place);
     }
-    next_section(fd, section, checks, tally)
+    next_section(file, section, checks, tally)
 }
 
 // The same section with another check.
@@ -96,19 +105,19 @@ pub fn moved(place: Place, at: usize) -> Place {
     }
 }
 
-// A number below 0 where the file cannot be opened, which is told.
-pub fn open(path: &[u8]) -> i32 {
-    let fd = os::open_read(path);
-    if fd < 0 {
-        os::fail(path);
-    }
-    fd
+// Nothing where the file cannot be opened, which is told.
+pub fn open<R: Files + Eprint>(rt: &R, path: &str) -> io::Result<Option<R::File>> {
+    files::open(rt, path)
 }
 
 // Closes the file and begins to tell how its checks came out.
-pub fn close(fd: i32, path: &[u8], tally: &[u64; 64]) {
-    libc::close(fd);
-    io::write_all(STDOUT_FILENO, path);
-    io::write_all(STDOUT_FILENO, b":\n");
-    tally::say_sizes(tally);
+pub fn close(
+    rt: &impl Print,
+    file: impl Read + Drop,
+    path: &str,
+    tally: &[u64; 64],
+) -> io::Result<()> {
+    drop(file);
+    println!(rt; "{path}:")?;
+    tally::say_sizes(rt, tally)
 }

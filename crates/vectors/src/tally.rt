@@ -1,6 +1,6 @@
 // Counts of checks by what they are to answer: a refusal's number, 0 where the call refuses nothing, or the row of the calls that
 // answer bytes.
-use libc::STDOUT_FILENO;
+use std::io;
 
 // How many rows there are; those of the wrong answers stand behind them.
 pub const ROWS: usize = 32;
@@ -40,21 +40,22 @@ fn count(tally: &[u64; 64], row: usize) -> u64 {
     0
 }
 
-fn say(what: &[u8], n: u64) {
-    io::write_all(STDOUT_FILENO, what);
-    io::print_decimal(STDOUT_FILENO, n);
+fn say(rt: &impl Print, what: &[u8], n: u64) -> io::Result<()> {
+    rt.write_all(what)?;
+    print!(rt; "{n}")
 }
 
-pub fn say_row(what: &[u8], tally: &[u64; 64], row: usize) {
+pub fn say_row(rt: &impl Print, what: &[u8], tally: &[u64; 64], row: usize) -> io::Result<()> {
     if row < ROWS {
-        say(what, count(tally, row));
-        say(b" wrong ", count(tally, row + ROWS));
-        io::write_all(STDOUT_FILENO, b"\n");
+        say(rt, what, count(tally, row))?;
+        say(rt, b" wrong ", count(tally, row + ROWS))?;
+        println!(rt)?;
     }
+    Ok(())
 }
 
-pub fn say_sizes(tally: &[u64; 64]) {
-    say(b"sections ", count(tally, SECTIONS));
-    say(b"\nchecks ", count(tally, CHECKS));
-    io::write_all(STDOUT_FILENO, b"\n");
+pub fn say_sizes(rt: &impl Print, tally: &[u64; 64]) -> io::Result<()> {
+    say(rt, b"sections ", count(tally, SECTIONS))?;
+    say(rt, b"\nchecks ", count(tally, CHECKS))?;
+    println!(rt)
 }

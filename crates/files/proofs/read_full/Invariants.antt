@@ -1,0 +1,9 @@
+-- A read gives at most the bytes that the slice has room for, and none only where the loop ends.
+use Rattle.std.proofs.Common.{◌-◌, ◌≤◌, length}
+use Rattle.files.proofs.read_full.Given as goal
+
+abbrev pub invariant-loop-done : goal.invariant-loop-done
+invariant-loop-done g l = l.done ≤ length l.bytes
+
+abbrev pub decreases-loop-done : goal.decreases-loop-done
+decreases-loop-done g l = length l.bytes - l.done

@@ -1,78 +1,74 @@
 // Document 01, "Sections by hand": the cases without a mark, run.
 #![tactic(auto)]
+
 use binary::counts::Refusal;
-use libc::STDOUT_FILENO;
+use std::io;
 use tracks::camera::CameraKeyframe;
 use tracks::track::TrackSummary;
 use tracks::{camera, track};
 
-fn say(what: &[u8]) {
-    io::write_all(STDOUT_FILENO, what);
-}
-
-fn say_number(what: &[u8], n: usize) {
-    say(what);
-    io::print_decimal(STDOUT_FILENO, n as u64);
-}
-
-fn say_refusal(why: Refusal) {
+fn say_refusal(rt: &impl Print, why: Refusal) -> io::Result<()> {
     match why {
-        Refusal::TooShort(at) => say_number(b"refused 1 at ", at),
-        Refusal::NegativeCount(at) => say_number(b"refused 2 at ", at),
-        Refusal::CountAboveLimit(at) => say_number(b"refused 20 at ", at),
-        Refusal::TooLong => say(b"refused 16"),
-        Refusal::Absent => say(b"refused 19"),
+        Refusal::TooShort(at) => println!(rt; "refused 1 at {at}"),
+        Refusal::NegativeCount(at) => println!(rt; "refused 2 at {at}"),
+        Refusal::CountAboveLimit(at) => println!(rt; "refused 20 at {at}"),
+        Refusal::TooLong => println!(rt; "refused 16"),
+        Refusal::Absent => println!(rt; "refused 19"),
     }
 }
 
-fn say_track(what: &[u8], answer: TrackSummary) {
-    say(what);
+fn say_track(rt: &impl Print, what: &str, answer: TrackSummary) -> io::Result<()> {
+    print!(rt; "{what}")?;
     match answer {
-        TrackSummary::Read(t) => say_number(b"read to ", t.offset_end),
-        TrackSummary::Refused(why) => say_refusal(why),
+        TrackSummary::Read(t) => println!(rt; "read to {}", t.offset_end),
+        TrackSummary::Refused(why) => say_refusal(rt, why),
     }
-    say(b"\n");
 }
 
-fn say_perspective(what: &[u8], answer: CameraKeyframe) {
-    say(what);
+fn say_perspective(rt: &impl Print, what: &str, answer: CameraKeyframe) -> io::Result<()> {
+    print!(rt; "{what}")?;
     match answer {
         CameraKeyframe::Read(b) => {
             if b.perspective_view {
-                say(b"perspective on");
+                println!(rt; "perspective on")
             } else {
-                say(b"perspective off");
+                println!(rt; "perspective off")
             }
         }
-        CameraKeyframe::Refused(why) => say_refusal(why),
+        CameraKeyframe::Refused(why) => say_refusal(rt, why),
     }
-    say(b"\n");
 }
 
-fn main() {
+fn main(rt: HostRuntime) -> io::Result<()> {
     let zeros = [0u8; 128];
     say_track(
-        b"camera, 119 zero bytes: ",
+        &rt,
+        "camera, 119 zero bytes: ",
         track::read_document_camera_summary(&zeros[0..119], 0),
-    );
+    )?;
     say_perspective(
-        b"its initial record: ",
+        &rt,
+        "its initial record: ",
         camera::camera_keyframe(&zeros[0..119], 0, false, 0),
-    );
+    )?;
     say_perspective(
-        b"its additional record 0: ",
+        &rt,
+        "its additional record 0: ",
         camera::camera_keyframe(&zeros[0..119], 0, true, 0),
-    );
+    )?;
     say_track(
-        b"camera, 118 zero bytes: ",
+        &rt,
+        "camera, 118 zero bytes: ",
         track::read_document_camera_summary(&zeros[0..118], 0),
-    );
+    )?;
     say_track(
-        b"light, 65 zero bytes: ",
+        &rt,
+        "light, 65 zero bytes: ",
         track::read_document_light_summary(&zeros[0..65], 0),
-    );
+    )?;
     say_track(
-        b"light, 64 zero bytes: ",
+        &rt,
+        "light, 64 zero bytes: ",
         track::read_document_light_summary(&zeros[0..64], 0),
-    );
+    )
 }

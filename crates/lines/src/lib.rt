@@ -1,5 +1,6 @@
 // The lines that list a model section (document 01, "Sections by hand", the listing program).
 #![tactic(auto)]
+
 pub mod list;
 pub mod say;
 mod strip_keys;

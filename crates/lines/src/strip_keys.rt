@@ -3,6 +3,7 @@ use crate::say;
 use binary::numbers;
 use binary::numbers::{ReadU8, ReadU32, Skipped};
 use chains::block::Kind;
+use std::io;
 
 // Where the walk stands and how many keys it has listed.
 #[derive(Clone, Copy)]
@@ -59,12 +60,18 @@ fn after_fields(strip: &[u8], at: usize, kind: Kind, map: u8) -> usize {
 }
 
 // The key at `at`; answers where the next one stands.
-fn list_key(strip: &[u8], at: usize, kind: Kind, track: usize) -> usize {
+fn list_key(
+    rt: &impl Print,
+    strip: &[u8],
+    at: usize,
+    kind: Kind,
+    track: usize,
+) -> io::Result<usize> {
     let frame = number(strip, at);
     let map_at = after(strip, at, 4);
     let map = byte(strip, map_at);
-    say::say_key(kind, track, frame, map);
-    after_fields(strip, after(strip, map_at, 1), kind, map)
+    say::say_key(rt, kind, track, frame, map)?;
+    Ok(after_fields(strip, after(strip, map_at, 1), kind, map))
 }
 
 // A strip of 65,536 bytes has fewer keys than that.
@@ -72,25 +79,33 @@ fn one_more(keys: usize) -> usize {
     if keys < 65536 { keys + 1 } else { keys }
 }
 
-fn list_track(strip: &[u8], from: Listed, kind: Kind, track: usize) -> Listed {
+fn list_track(
+    rt: &impl Print,
+    strip: &[u8],
+    from: Listed,
+    kind: Kind,
+    track: usize,
+) -> io::Result<Listed> {
     let count = key_count(strip, from.at);
     let mut at = after(strip, from.at, 2);
     let mut keys = from.keys;
-    let mut key = 0;
-    while key < count {
-        at = list_key(strip, at, kind, track);
+    for _ in 0..count {
+        at = list_key(rt, strip, at, kind, track)?;
         keys = one_more(keys);
-        key = key + 1;
     }
-    Listed { at, keys }
+    Ok(Listed { at, keys })
 }
 
-pub fn list_tracks(strip: &[u8], from: Listed, kind: Kind, tracks: usize) -> Listed {
+pub fn list_tracks(
+    rt: &impl Print,
+    strip: &[u8],
+    from: Listed,
+    kind: Kind,
+    tracks: usize,
+) -> io::Result<Listed> {
     let mut walk = from;
-    let mut track = 0;
-    while track < tracks {
-        walk = list_track(strip, walk, kind, track);
-        track = track + 1;
+    for track in 0..tracks {
+        walk = list_track(rt, strip, walk, kind, track)?;
     }
-    walk
+    Ok(walk)
 }

@@ -1,22 +1,24 @@
 // Document 01, "Sections by hand": the listing program. It reads one model section from standard input and prints its counts, every
 // key of its strip and how many records are loose, or the number of the refusal.
 #![tactic(auto)]
-use libc::STDIN_FILENO;
-use lines::{list, say};
 
-fn more_comes() -> bool {
+use lines::{list, say};
+use std::io;
+use std::io::Read;
+
+fn more_comes(input: &mut impl Read) -> io::Result<bool> {
     let mut one = [0u8; 1];
-    0 < io::read_full(STDIN_FILENO, &mut one)
+    Ok(0 < files::read_full(input, &mut one)?)
 }
 
-fn main() {
-    let mut space = io::large_buffer();
-    let n = io::read_full(STDIN_FILENO, &mut space);
+fn main(rt: HostRuntime) -> io::Result<()> {
+    let mut input = rt.stdin();
+    let mut space = [0u8; 65536];
+    let n = files::read_full(&mut input, &mut space)?;
     if n == 65536 {
-        if more_comes() {
-            say::say_refused(16);
-            return;
+        if more_comes(&mut input)? {
+            return say::say_refused(&rt, 16);
         }
     }
-    list::list(&space[0..n], 0);
+    list::list(&rt, &space[0..n], 0)
 }

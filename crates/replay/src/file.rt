@@ -1,5 +1,8 @@
 // The checks of a file, made and counted.
 use crate::{byte_calls, check, number_calls};
+use std::io;
+use std::io::Read;
+use std::rt::Files;
 use vectors::file::Place;
 use vectors::{file, tally};
 
@@ -43,38 +46,41 @@ fn make(section: &[u8], checks: &[u8], place: Place, tally: &mut [u64; 64]) -> P
     file::moved(place, next)
 }
 
-fn every_check(fd: i32, section: &mut [u8], checks: &mut [u8], tally: &mut [u64; 64]) {
+fn every_check(
+    file: &mut impl Read,
+    section: &mut [u8],
+    checks: &mut [u8],
+    tally: &mut [u64; 64],
+) -> io::Result<()> {
     let mut place = file::begin();
-    let mut turns: u64 = 1000000;
-    while turns > 0 {
-        place = file::next_check(fd, section, checks, place, tally);
+    for _ in 0..1000000u64 {
+        place = file::next_check(file, section, checks, place, tally)?;
         if place.ended {
-            return;
+            return Ok(());
         }
         place = make(section, checks, place, tally);
-        turns = turns - 1;
     }
+    Ok(())
 }
 
-fn say_rows(tally: &[u64; 64]) {
-    tally::say_row(b"read: ", tally, 0);
-    tally::say_row(b"refused 1: ", tally, 1);
-    tally::say_row(b"refused 2: ", tally, 2);
-    tally::say_row(b"refused 19: ", tally, 19);
-    tally::say_row(b"refused 20: ", tally, 20);
-    tally::say_row(b"bytes: ", tally, tally::BYTES);
+fn say_rows(rt: &impl Print, tally: &[u64; 64]) -> io::Result<()> {
+    tally::say_row(rt, b"read: ", tally, 0)?;
+    tally::say_row(rt, b"refused 1: ", tally, 1)?;
+    tally::say_row(rt, b"refused 2: ", tally, 2)?;
+    tally::say_row(rt, b"refused 19: ", tally, 19)?;
+    tally::say_row(rt, b"refused 20: ", tally, 20)?;
+    tally::say_row(rt, b"bytes: ", tally, tally::BYTES)
 }
 
 // Makes the checks of a file and says how they came out.
-pub fn replay(path: &[u8]) {
-    let fd = file::open(path);
-    if fd < 0 {
-        return;
-    }
-    let mut section = io::buffer();
-    let mut checks = io::large_buffer();
+pub fn replay<R: Files + Print + Eprint>(rt: &R, path: &str) -> io::Result<()> {
+    let Some(mut opened) = file::open(rt, path)? else {
+        return Ok(());
+    };
+    let mut section = [0u8; 4096];
+    let mut checks = [0u8; 65536];
     let mut tally = [0u64; 64];
-    every_check(fd, &mut section, &mut checks, &mut tally);
-    file::close(fd, path, &tally);
-    say_rows(&tally);
+    every_check(&mut opened, &mut section, &mut checks, &mut tally)?;
+    file::close(rt, opened, path, &tally)?;
+    say_rows(rt, &tally)
 }

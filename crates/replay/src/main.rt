@@ -1,12 +1,15 @@
 // Makes the checks that oracle/ wrote from the Rust's answers through the library's calls, and counts those that come out
 // otherwise. In the second file one number is changed, to show that this is seen.
 #![tactic(auto)]
+
 mod byte_calls;
 mod check;
 mod file;
 mod number_calls;
 
-fn main() {
-    file::replay(b"vectors");
-    file::replay(b"broken");
+use std::io;
+
+fn main(rt: HostRuntime) -> io::Result<()> {
+    file::replay(&rt, "vectors")?;
+    file::replay(&rt, "broken")
 }

@@ -100,7 +100,7 @@ fn show_refusal(rt: &impl Print, why: Refusal) -> io::Result<()> {
 }
 
 fn main(rt: HostRuntime) -> io::Result<()> {
-    let mut space = vec![in rt.alloc(); 0u8; 65536]?;
+    let mut space = [0u8; 65536];
     let n = files::load(&rt, "section", &mut space)?;
     let section = &space[0..n];
     match summary::read_document_model_summary(section, START) {

@@ -1,0 +1,44 @@
+// Bone, morph and model records.
+ghost use Rattle.section.specs.Limits.{edition1};
+ghost use Rattle.numbers.specs.Answers.{Says};
+ghost use Rattle.lists.specs.Keyframes.{bone_keyframe, morph_keyframe, model_keyframe};
+ghost use Rattle.numbers.specs.Keyframes.{bone, morph, model};
+
+#[unsafe(no_mangle)]
+pub extern "C" fn limdroven_bone_keyframe(
+    section: &[u8],
+    start: usize,
+    include_index: bool,
+    number: usize,
+    values: &mut [u64],
+) -> u32
+    ensures { Says bone (bone_keyframe edition1 include_index number section.now start) values.old result values.new }
+{
+    exports::keyframes::limdroven_bone_keyframe(section, start, include_index, number, values)
+}
+
+#[unsafe(no_mangle)]
+pub extern "C" fn limdroven_morph_keyframe(
+    section: &[u8],
+    start: usize,
+    include_index: bool,
+    number: usize,
+    values: &mut [u64],
+) -> u32
+    ensures { Says morph (morph_keyframe edition1 include_index number section.now start) values.old result values.new }
+{
+    exports::keyframes::limdroven_morph_keyframe(section, start, include_index, number, values)
+}
+
+#[unsafe(no_mangle)]
+pub extern "C" fn limdroven_model_keyframe(
+    section: &[u8],
+    start: usize,
+    include_index: bool,
+    number: usize,
+    values: &mut [u64],
+) -> u32
+    ensures { Says model (model_keyframe edition1 include_index number section.now start) values.old result values.new }
+{
+    exports::keyframes::limdroven_model_keyframe(section, start, include_index, number, values)
+}

@@ -1,0 +1,47 @@
+// The bools and pairs of a model record.
+ghost use Rattle.section.specs.Limits.{edition1};
+ghost use Rattle.numbers.specs.Answers.{Says};
+ghost use Rattle.lists.specs.ModelLists.{model_keyframe_constraint_state, model_keyframe_outside_parent};
+ghost use Rattle.numbers.specs.States.{flag, pair};
+
+#[unsafe(no_mangle)]
+pub extern "C" fn limdroven_model_keyframe_constraint_state(
+    section: &[u8],
+    start: usize,
+    include_index: bool,
+    number: usize,
+    entry: usize,
+    values: &mut [u64],
+) -> u32
+    ensures { Says flag (model_keyframe_constraint_state edition1 include_index number entry section.now start) values.old result values.new }
+{
+    exports::model_lists::limdroven_model_keyframe_constraint_state(
+        section,
+        start,
+        include_index,
+        number,
+        entry,
+        values,
+    )
+}
+
+#[unsafe(no_mangle)]
+pub extern "C" fn limdroven_model_keyframe_outside_parent(
+    section: &[u8],
+    start: usize,
+    include_index: bool,
+    number: usize,
+    entry: usize,
+    values: &mut [u64],
+) -> u32
+    ensures { Says pair (model_keyframe_outside_parent edition1 include_index number entry section.now start) values.old result values.new }
+{
+    exports::model_lists::limdroven_model_keyframe_outside_parent(
+        section,
+        start,
+        include_index,
+        number,
+        entry,
+        values,
+    )
+}

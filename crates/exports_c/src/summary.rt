@@ -1,0 +1,12 @@
+// The summary of a model section.
+ghost use Rattle.section.specs.Limits.{edition1};
+ghost use Rattle.numbers.specs.Answers.{Says};
+ghost use Rattle.section.specs.Summary.{model_summary};
+ghost use Rattle.numbers.specs.Summary.{model_summary as summary_numbers};
+
+#[unsafe(no_mangle)]
+pub extern "C" fn limdroven_model_summary(section: &[u8], start: usize, values: &mut [u64]) -> u32
+    ensures { Says summary_numbers (model_summary edition1 section.now start) values.old result values.new }
+{
+    exports::summary::limdroven_model_summary(section, start, values)
+}

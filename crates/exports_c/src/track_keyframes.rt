@@ -1,0 +1,44 @@
+// Camera and light records.
+ghost use Rattle.section.specs.Limits.{edition1};
+ghost use Rattle.numbers.specs.Answers.{Says};
+ghost use Rattle.tracks.specs.Camera.{camera_keyframe};
+ghost use Rattle.tracks.specs.Light.{light_keyframe};
+ghost use Rattle.numbers.specs.Tracks.{camera, light};
+
+#[unsafe(no_mangle)]
+pub extern "C" fn limdroven_camera_keyframe(
+    section: &[u8],
+    start: usize,
+    include_index: bool,
+    number: usize,
+    values: &mut [u64],
+) -> u32
+    ensures { Says camera (camera_keyframe edition1 include_index number section.now start) values.old result values.new }
+{
+    exports::track_keyframes::limdroven_camera_keyframe(
+        section,
+        start,
+        include_index,
+        number,
+        values,
+    )
+}
+
+#[unsafe(no_mangle)]
+pub extern "C" fn limdroven_light_keyframe(
+    section: &[u8],
+    start: usize,
+    include_index: bool,
+    number: usize,
+    values: &mut [u64],
+) -> u32
+    ensures { Says light (light_keyframe edition1 include_index number section.now start) values.old result values.new }
+{
+    exports::track_keyframes::limdroven_light_keyframe(
+        section,
+        start,
+        include_index,
+        number,
+        values,
+    )
+}

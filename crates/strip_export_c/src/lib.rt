@@ -1,0 +1,5 @@
+// The strip call of `strip_export` as a static library: the library's call under its C name, with the library's clause.
+// ../strip_export/include/limdroven_strip.h declares it.
+#![tactic(auto)]
+
+pub mod call;

@@ -1,40 +1,46 @@
 #!/bin/sh
-# modules.sh FOLDER: builds the archives `exports` and `strip_export` and keeps in FOLDER the LLVM module of each, from which they are compiled.
-# `rt staticlib` leaves none. The kit is used through a folder of links in which `clang` first copies the module that it is given.
+# modules.sh FOLDER: builds the archives as tools/archives does and keeps in FOLDER the LLVM module of each, from which they are compiled.
+# `rt lib` leaves none. The kit is used through a folder of links in which `clang` first copies the module that it is given.
 set -eu
 [ $# -eq 1 ] || { echo "modules.sh FOLDER" >&2; exit 2; }
 mkdir -p "$1"
 kept=$(cd "$1" && pwd)
 cd "$(dirname "$0")/../.."
-kit=${RATTLE_HOME:-$(dirname "$(dirname "$(readlink -f "$(command -v rt)")")")}
-machine=$(uname -m)
+kit=$(dirname "$(dirname "$(readlink -f "$(command -v rt)")")")
 links=$kept/kit
 rm -rf "$links"
-mkdir -p "$links/on/$machine/toolchain/bin"
-link() { # FROM TO BUT
-    for file in "$1"/*; do
+mkdir -p "$links/bin" "$links/toolchain/bin"
+link() { # FROM TO BUT..
+    from=$1 to=$2
+    shift 2
+    for file in "$from"/*; do
         name=$(basename "$file")
-        [ "$name" = "$3" ] || ln -s "$file" "$2/$name"
+        case " $* " in *" $name "*) ;; *) ln -s "$file" "$to/$name" ;; esac
     done
 }
-link "$kit" "$links" on
-link "$kit/on/$machine" "$links/on/$machine" toolchain
-link "$kit/on/$machine/toolchain" "$links/on/$machine/toolchain" bin
-link "$kit/on/$machine/toolchain/bin" "$links/on/$machine/toolchain/bin" clang
-real=$kit/on/$machine/toolchain/bin/clang
-cat >"$links/on/$machine/toolchain/bin/clang" <<WRAPPER
+link "$kit" "$links" bin toolchain
+# `rt` takes the kit in which its own file lies, past links, so it is copied.
+link "$kit/bin" "$links/bin" rt rtlib.py
+cp "$kit/bin/rt" "$kit/bin/rtlib.py" "$links/bin"
+link "$kit/toolchain" "$links/toolchain" bin
+link "$kit/toolchain/bin" "$links/toolchain/bin" clang
+real=$kit/toolchain/bin/clang
+cat >"$links/toolchain/bin/clang" <<WRAPPER
 #!/bin/sh
 for word in "\$@"; do
     case \$word in *.bc) cp "\$word" "$kept/module.bc" ;; esac
 done
 exec "$real" "\$@"
 WRAPPER
-chmod +x "$links/on/$machine/toolchain/bin/clang"
+chmod +x "$links/toolchain/bin/clang"
+mkdir -p target/staticlib
 for name in exports strip_export; do
-    before=$(sha256sum "target/staticlib/lib$name.a" 2>/dev/null | cut -d' ' -f1)
-    RATTLE_HOME=$links rt staticlib "$name" >"$kept/$name.log" 2>&1 || { tail -5 "$kept/$name.log" >&2; exit 1; }
+    archive=target/staticlib/lib$name.a
+    before=$(sha256sum "$archive" 2>/dev/null | cut -d' ' -f1)
+    (cd "crates/${name}_c" && "$links/bin/rt" lib) >"$kept/$name.log" 2>&1 || { tail -5 "$kept/$name.log" >&2; exit 1; }
     mv "$kept/module.bc" "$kept/$name.bc"
-    after=$(sha256sum "target/staticlib/lib$name.a" | cut -d' ' -f1)
+    cp "crates/${name}_c/out/lib${name}_c.a" "$archive"
+    after=$(sha256sum "$archive" | cut -d' ' -f1)
     if [ -z "$before" ]; then
         echo "$name: module kept; there was no archive before"
     elif [ "$before" = "$after" ]; then

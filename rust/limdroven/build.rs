@@ -1,6 +1,6 @@
-//! Finds the archives that `rt staticlib exports` and `rt staticlib strip_export` write: in the folder `LIMDROVEN_LIB`,
-//! absolute or from the folder above this crate, or else in `target/staticlib` of the repository. Each archive defines its
-//! own calls and nothing else, so both can be linked.
+//! Finds the archives that `tools/archives` writes: in the folder `LIMDROVEN_LIB`, absolute or from the folder above this
+//! crate, or else in `target/staticlib` of the repository. Each archive defines its own calls and nothing else, so both can
+//! be linked.
 
 use std::env;
 use std::path::PathBuf;
@@ -12,7 +12,7 @@ fn main() {
     println!("cargo:rustc-link-search=native={}", folder.display());
     for name in ["exports", "strip_export"] {
         let archive = folder.join(format!("lib{name}.a"));
-        assert!(archive.exists(), "{}: not there; `rt staticlib {name}` writes it", archive.display());
+        assert!(archive.exists(), "{}: not there; `tools/archives` writes it", archive.display());
         println!("cargo:rerun-if-changed={}", archive.display());
         println!("cargo:rustc-link-lib=static={name}");
     }

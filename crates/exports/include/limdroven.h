@@ -1,4 +1,4 @@
-/* The calls of the static library libexports.a (`rt staticlib exports`), for C.
+/* The calls of the static library libexports.a (tools/archives builds it), for C.
 
    A section is lent as a pointer and a length in bytes; `start` is the section's offset in them. A slice that a call writes is lent as
    a pointer and a length in elements. A pointer must be good for that many elements; with the length 0 it is not followed. A slice

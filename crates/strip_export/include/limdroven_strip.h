@@ -1,4 +1,4 @@
-/* The strip call of the static library libstrip_export.a (`rt staticlib strip_export`), for C.
+/* The strip call of the static library libstrip_export.a (tools/archives builds it), for C.
 
    The section is lent as a pointer and a length in bytes; `start` is its offset in them. Each slice that is written is lent as a pointer
    and a length in elements. A pointer must be good for that many elements; with the length 0 it is not followed. No slice that is

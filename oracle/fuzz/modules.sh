@@ -7,8 +7,10 @@ mkdir -p "$1"
 kept=$(cd "$1" && pwd)
 cd "$(dirname "$0")/../.."
 kit=$(dirname "$(dirname "$(readlink -f "$(command -v rt)")")")
-links=$kept/kit
-rm -rf "$links"
+# Outside the checkout: `rt ci` takes no links below it.
+away=$(mktemp -d)
+trap 'rm -rf "$away"' EXIT
+links=$away/kit
 mkdir -p "$links/bin" "$links/toolchain/bin"
 link() { # FROM TO BUT..
     from=$1 to=$2

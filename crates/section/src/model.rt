@@ -98,6 +98,7 @@ fn read_parts(s: &[u8], at: usize) -> ReadModel
     }
 }
 
+#[tactic(auto, unfolding(crate::specs::Model::model_section))]
 pub fn read_model(s: &[u8], start: usize) -> ReadModel
     ensures { model_read result ≡ model_section edition1 s.now start }
 {

@@ -15,8 +15,8 @@ use section::model::{Model, ReadModel};
 
 // Refused: "3 to 15 and 18 leave the first A + B places of both u16 slices 0".
 fn refuse(why: StripRefusal, need: usize, first: &mut [u16], second: &mut [u16]) -> Strip
-    requires need_in_bounds { need ≤ length first.old }
-    requires need_in_bounds_2 { need ≤ length second.old }
+    requires first_long_enough { need ≤ length first.old }
+    requires second_long_enough { need ≤ length second.old }
     ensures { Refuses why need first.old second.old result first.new second.new }
 {
     bytes::clear(first, need);

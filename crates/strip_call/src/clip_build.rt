@@ -11,11 +11,11 @@ use chains::block::Block;
 // The build of one kind in the places from one on.
 fn build_part(s: &[u8], b: Block, from: usize, first: &mut [u16], second: &mut [u16]) -> BuiltKind
     requires fits { Fits s.now b }
-    requires count_in_bounds { from + b.records.count ≤ length first.old }
-    requires count_in_bounds_2 { from + b.records.count ≤ length second.old }
+    requires first_long_enough { from + b.records.count ≤ length first.old }
+    requires second_long_enough { from + b.records.count ≤ length second.old }
     ensures builds { Builds s.now b (part from b.records.count first.new) (part from b.records.count second.new) result }
-    ensures outside { Outside from b.records.count first.old first.new }
-    ensures outside_2 { Outside from b.records.count second.old second.new }
+    ensures first_outside { Outside from b.records.count first.old first.new }
+    ensures second_outside { Outside from b.records.count second.old second.new }
 {
     let end = from + b.records.count;
     build::build_kind(s, b, &mut first[from..end], &mut second[from..end])
@@ -28,13 +28,13 @@ pub fn build_clip(
     first: &mut [u16],
     second: &mut [u16],
 ) -> BuiltClip
-    requires fits { Fits s.now bones }
-    requires fits_2 { Fits s.now morphs }
-    requires count_in_bounds { bones.records.count + morphs.records.count ≤ length first.old }
-    requires count_in_bounds_2 { bones.records.count + morphs.records.count ≤ length second.old }
-    ensures clip_builds { ClipBuilds s.now bones morphs first.new second.new result }
-    ensures outside { Outside 0 (bones.records.count + morphs.records.count) first.old first.new }
-    ensures outside_2 { Outside 0 (bones.records.count + morphs.records.count) second.old second.new }
+    requires bones_fit { Fits s.now bones }
+    requires morphs_fit { Fits s.now morphs }
+    requires first_long_enough { bones.records.count + morphs.records.count ≤ length first.old }
+    requires second_long_enough { bones.records.count + morphs.records.count ≤ length second.old }
+    ensures builds { ClipBuilds s.now bones morphs first.new second.new result }
+    ensures first_outside { Outside 0 (bones.records.count + morphs.records.count) first.old first.new }
+    ensures second_outside { Outside 0 (bones.records.count + morphs.records.count) second.old second.new }
 {
     match build_part(s, bones, 0, first, second) {
         BuiltKind::Refused(fault) => BuiltClip::Bones(bones.initials.count, fault),

@@ -3,10 +3,6 @@ use Rattle.section.proofs.Reading.{reading}
 use Rattle.section.specs.Model.{model_section}
 use Rattle.section.proofs.model.read_model.Goals as goal
 
-pub returns-then-s-gt16777215 : goal.returns-then-s-gt16777215
-unfolding model_section
-returns-then-s-gt16777215 c = search reading
-
 pub returns : goal.returns
 unfolding model_section
 returns c = search reading

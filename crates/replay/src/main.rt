@@ -10,6 +10,6 @@ mod number_calls;
 use std::io;
 
 fn main(rt: HostRuntime) -> io::Result<()> {
-    file::replay(&rt, "vectors")?;
-    file::replay(&rt, "broken")
+    file::replay(&rt, b"vectors")?;
+    file::replay(&rt, b"broken")
 }

@@ -78,7 +78,7 @@ fn say_rows(rt: &impl Print, tally: &[u64; 64]) -> io::Result<()> {
 }
 
 // Makes the checks of a file and says how they came out.
-pub fn replay<R: Files + Print + Eprint>(rt: &R, path: &str) -> io::Result<()> {
+pub fn replay<R: Files + Print + Eprint>(rt: &R, path: &[u8]) -> io::Result<()> {
     let Some(mut opened) = file::open(rt, path)? else {
         return Ok(());
     };

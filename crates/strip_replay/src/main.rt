@@ -9,6 +9,6 @@ mod strips;
 use std::io;
 
 fn main(rt: HostRuntime) -> io::Result<()> {
-    file::replay(&rt, "vectors")?;
-    file::replay(&rt, "broken")
+    file::replay(&rt, b"vectors")?;
+    file::replay(&rt, b"broken")
 }

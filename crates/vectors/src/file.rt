@@ -105,19 +105,26 @@ pub fn moved(place: Place, at: usize) -> Place {
     }
 }
 
-// Nothing where the file cannot be opened, which is told.
-pub fn open<R: Files + Eprint>(rt: &R, path: &str) -> io::Result<Option<R::File>> {
-    files::open(rt, path)
+// Nothing where the file cannot be opened, which is told; std opens no file whose name is not text.
+pub fn open<R: Files + Eprint>(rt: &R, path: &[u8]) -> io::Result<Option<R::File>> {
+    match str::from_utf8(path) {
+        Ok(name) => files::open(rt, name),
+        Err(error) => {
+            eprintln!(rt; "{error}")?;
+            Ok(None)
+        }
+    }
 }
 
 // Closes the file and begins to tell how its checks came out.
 pub fn close(
     rt: &impl Print,
     file: impl Read + Drop,
-    path: &str,
+    path: &[u8],
     tally: &[u64; 64],
 ) -> io::Result<()> {
     drop(file);
-    println!(rt; "{path}:")?;
+    rt.write_all(path)?;
+    println!(rt; ":")?;
     tally::say_sizes(rt, tally)
 }

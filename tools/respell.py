@@ -1,6 +1,6 @@
 #!/usr/bin/env python3
 """Brings the names of this repository's definitions and lemmas to Rattle's spelling: words in snake case, as `before_zero` for
-`beforeZero`. Run once, at the top, on what /opt/rattle/port/port.py left; what is written after that has the new spelling.
+`beforeZero`. Run once, at the top, behind the toolchain's own script; what is written after that has the new spelling.
 
 Turned are the words that begin small and have a capital behind: in specs/ and proofs/, in clauses, imports and comments of src/,
 in must-fail edits, and between backticks in README.md and docs/. The code of src/ has no such word, and C names, strings, inputs

@@ -1,5 +1,4 @@
 -- `listed` meets its contract. Assumes nothing.
--- `listed` meets its contract. Assumes nothing.
 use Rattle.chains.proofs.Going.{listed-step, listed-is}
 use Rattle.clip.specs.First.{member}
 use lib.ListN.{take}

@@ -15,7 +15,7 @@ use Rattle.strip.proofs.Bytes.{length-little_endian}
 use Rattle.strip.proofs.Keys.{Shaped}
 use Rattle.strip.proofs.Written.{bone-shaped, morph-shaped}
 use Rattle.keys.specs.Plain.{plain_in, bone_plain, standing}
-use Rattle.keys.specs.Placed.{head_bytes, pose_bytes, three_curves, curve_bytes, bone_key_bytes, morph_key_bytes}
+use Rattle.keys.specs.Placed.{Room, head_bytes, pose_bytes, three_curves, curve_bytes, bone_key_bytes, morph_key_bytes}
 use Rattle.keys.specs.declared.plain.BonePlain.{BonePlain}
 use Rattle.keys.proofs.Groups.{first-curves, fourth-curve, bone-map-is, morph-map-is, at_most}
 
@@ -85,9 +85,16 @@ module _ (s : List ℕ) (at frame : ℕ) where
         let d = cond p.rotation [] (get_or cs 3 []) in
         regroup (little_endian 4 frame) byte a b c d ∙ rw (byte-is, pe, ce, first-curves s at, fourth-curve s at, add_assoc at 16 12)
 
+    -- Room for the key is room for its parts.
+    pub bone-room : (place : ℕ) (old : List ℕ) → p ≡ bone_plain (bone_body s at) → cs ≡ map clamped (curves_at s at) → byte ≡ standing 1 2 4 8 p → Room place (bone_key_bytes s at frame) old → Room place (head_bytes frame byte ++ pose_bytes p s at ++ curve_bytes p cs) old
+    bone-room place old pe ce be room = rw (bone-parts pe ce be) room
+
   module _ (plain : Bool) (byte : ℕ) where
     pub morph-parts : plain ≡ plain_in morph_groups (morph_fields (morph_body s at)) 0 → byte ≡ cond plain 0 1 → head_bytes frame byte ++ cond plain [] (bytes_at s at 4) ≡ morph_key_bytes s at frame
     unfolding key_bytes present morph_body
     morph-parts pe be =
         let byte-is : byte ≡ map_byte morph_groups (morph_fields (morph_body s at)) = be ∙ rw pe (morph-map-is s at) in
         simp (append_assoc, append-nil) (rw (byte-is, pe))
+
+    pub morph-room : (place : ℕ) (old : List ℕ) → plain ≡ plain_in morph_groups (morph_fields (morph_body s at)) 0 → byte ≡ cond plain 0 1 → Room place (morph_key_bytes s at frame) old → Room place (head_bytes frame byte ++ cond plain [] (bytes_at s at 4)) old
+    morph-room place old pe be room = rw (morph-parts pe be) room

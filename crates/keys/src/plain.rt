@@ -89,6 +89,7 @@ pub fn unless(plain: bool, n: u8) -> u8
 }
 
 // The sum of one number for each group that is not plain: of the bits, the map byte; of the widths, how many bytes follow it.
+#[tactic(auto, using(crate::proofs::Groups::at_most))]
 pub fn standing(plain: BonePlain, translation: u8, orientation: u8, curves: u8, rotation: u8) -> u8
     requires { translation + orientation + curves + rotation < 256 }
     ensures { result ≡ standing translation orientation curves rotation plain }

@@ -1,9 +1,10 @@
 -- The tracks, one by one: their marks and the links followed. Assumes nothing.
-use Prim.Native.Nat.{ℕ, ◌+◌, ◌*◌, ◌≤◌}
+use Prim.Native.Nat.{ℕ, ◌+◌, ◌*◌, ◌≤◌, ◌<◌}
 use native.Mathlib.Numerals.{add-one}
 use native.Mathlib.Omega.{arith}
 use mathlib.Core.List.{List}
-use mathlib.Core.Path.{◌≡◌, refl, ap, ◌∙◌, subst}
+use mathlib.Core.Option.{some}
+use mathlib.Core.Path.{◌≡◌, refl, sym, ap, ◌∙◌, subst}
 use lib.ListN.{length, replicate}
 use Rattle.clip.specs.Fields.{Records, Kind}
 use Rattle.clip.specs.First.{total}
@@ -13,6 +14,26 @@ use Rattle.marks.specs.Marks.{marked}
 use Rattle.marks.proofs.Each.{length-each}
 use Rattle.marks.proofs.Marking.{mark_before, none-marked, all-marked, track-marked}
 use Rattle.marks.proofs.Following.{Ending, few}
+use Rattle.layout.specs.Walk.{answered}
+use Rattle.clip.specs.Chain.{chain}
+use Rattle.clip.specs.Scan.{record_of}
+use Rattle.clip.proofs.Indexed.{record_of-found}
+use Rattle.chains.specs.Block.{kind_of, links}
+use Rattle.chains.specs.Lookup.{Ordered, found_read}
+use Rattle.chains.specs.declared.block.Block.{Block}
+use Rattle.chains.specs.declared.lookup.Found.{Found}
+
+-- A track of a block whose chain ends.
+pub ending : {s : List ℕ} {b : Block} {slots : List ℕ} {track : ℕ} → Ordered s b slots → track < b.initials.count → chain (kind_of b.kind) (links s b) track ≡ answered (chain_of (kind_of b.kind) (links s b) track) → Ending (kind_of b.kind) (links s b) track
+ending ordered is-track ended = record { indexed = ordered.indexed; is-track = is-track; ended = ended }
+
+-- The record that a search found.
+module _ (s : List ℕ) (b : Block) (link p : ℕ) {place : ℕ} {f : Found} (contract : found_read f ≡ record_of (links s b) link) (seen : f ≡ Found.At p place) where
+  pub found : record_of (links s b) link ≡ some p
+  found = sym contract ∙ ap found_read seen
+
+  pub found-inside : p < b.records.count
+  found-inside = (record_of-found (links s b) link p found).0
 
 module _ {B : Type 0} (kind : Kind) (r : Records B) where
   -- So many links were followed in the tracks before one.

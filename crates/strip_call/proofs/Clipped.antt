@@ -1,5 +1,5 @@
 -- What the build of one kind told, and that each record is then reached or loose. Assumes nothing.
-use Prim.Native.Nat.{ℕ, ◌+◌}
+use Prim.Native.Nat.{ℕ, ◌+◌, ◌≤◌}
 use native.Mathlib.Omega.{arith}
 use mathlib.Core.List.{List}
 use mathlib.Core.Path.{◌≡◌, subst}
@@ -9,6 +9,7 @@ use Rattle.chains.specs.Block.{kind_of, links}
 use Rattle.track_keys.specs.Tracks.{test_at}
 use Rattle.chains.specs.declared.block.Block.{Block}
 use Rattle.strip_call.specs.Building.{Passed, Builds}
+use Rattle.strip_call.specs.Parts.{part, Outside}
 use Rattle.strip_call.specs.declared.answer.BuiltKind.{BuiltKind}
 
 pub as-told : (s : List ℕ) (b : Block) (slots marks : List ℕ) {r told : BuiltKind} → r ≡ told → Builds s b slots marks r → Builds s b slots marks told
@@ -20,3 +21,15 @@ passed-all {s} {b} p =
     let f = p.followed in
     let u = p.unreached in
     omega arith
+
+-- The bones passed, and their places are as the morphs' build left them.
+pub front-passed : {s : List ℕ} {b : Block} {m : ℕ} (first₁ second₁ first₂ second₂ : List ℕ) {r : BuiltKind} {reached left : ℕ} → r ≡ BuiltKind.Counted reached left → Builds s b (part 0 b.records.count first₁) (part 0 b.records.count second₁) r → Outside b.records.count m first₁ first₂ → Outside b.records.count m second₁ second₂ → Passed s b (part 0 b.records.count first₂) (part 0 b.records.count second₂) reached left
+front-passed first₁ second₁ first₂ second₂ seen builds one two = rw (one.front, two.front) (as-told _ _ _ _ seen builds)
+
+-- The numbers of both kinds together.
+module _ {s₁ s₂ : List ℕ} {bones morphs : Block} {slots₁ marks₁ slots₂ marks₂ : List ℕ} {reached left more loose : ℕ} (few₁ : bones.records.count ≤ 65534) (few₂ : morphs.records.count ≤ 65534) (passed₁ : Passed s₁ bones slots₁ marks₁ reached left) (passed₂ : Passed s₂ morphs slots₂ marks₂ more loose) where
+  pub few-reached : reached + more ≤ 131068
+  few-reached = omega (arith, passed-all passed₁, passed-all passed₂)
+
+  pub few-loose : left + loose ≤ 131068
+  few-loose = omega (arith, passed-all passed₁, passed-all passed₂)

@@ -52,6 +52,10 @@ pub record Ran (s : List ℕ) (bones morphs : Block) (first second first₁ seco
   pub outside_second : Outside 0 (bones.records.count + morphs.records.count) second second₁
   pub builds : ClipBuilds s bones morphs first₁ second₁ b
 
+pub ran : {s : List ℕ} {bones morphs : Block} {first second first₁ second₁ : List ℕ} (b : BuiltClip) → Strippable s bones morphs first second → Outside 0 (bones.records.count + morphs.records.count) first first₁ → Outside 0 (bones.records.count + morphs.records.count) second second₁ → ClipBuilds s bones morphs first₁ second₁ b → Ran s bones morphs first second first₁ second₁ b
+ran b strippable outside_first outside_second builds =
+    record { strippable = strippable; outside_first = outside_first; outside_second = outside_second; builds = builds }
+
 module _ {s : List ℕ} {bones morphs : Block} {first second first₁ second₁ : List ℕ} {b : BuiltClip} (ran : Ran s bones morphs first second first₁ second₁ b) where
   zeroed-says : {o : Outcome} {why : StripRefusal} {output : List ℕ} → o ≡ zeroed first second output (bones.records.count + morphs.records.count) (refusal_read why) → {r : Strip} {first₂ second₂ : List ℕ} → Refuses why (bones.records.count + morphs.records.count) first₁ second₁ r first₂ second₂ → Says o r first₂ second₂ output
   zeroed-says is f =

@@ -60,7 +60,18 @@ pub record Ready-track (s : List ℕ) (b : Block) (slots : List ℕ) (track : �
   pub room : b.records.count ≤ length list
   pub keys : Keyed s b track list n again
 
+-- One that was made ready in a list that was long enough.
+pub ready-track : {s : List ℕ} {b : Block} {slots : List ℕ} {track : ℕ} (before list : List ℕ) {r : Ready} {n again : ℕ} → Ordered s b slots → track < b.initials.count → b.records.count ≤ length before → length list ≡ length before → Readies s b track list r → r ≡ Ready.Keys n again → Ready-track s b slots track list n again
+ready-track before list ordered is-track wide same readies seen =
+    record { ordered = ordered; is-track = is-track; room = omega (arith, wide, same); keys = keyed _ _ _ _ _ readies _ _ seen }
+
 module _ {s : List ℕ} {b : Block} {slots : List ℕ} {track : ℕ} {list : List ℕ} {n again : ℕ} (k : Ready-track s b slots track list n again) where
+  pub few-keys : n ≤ 65534
+  few-keys = omega (arith, k.keys.many, k.ordered.fits.few_records)
+
+  pub keys-inside : n ≤ length list
+  keys-inside = omega (arith, k.keys.many, k.room)
+
   listed-many : length (take n list) ≡ n
   listed-many = let many = k.keys.many in let room = k.room in length-take-le n list (omega arith)
 

@@ -54,6 +54,9 @@ pub record Ending (s : List ℕ) (b : Block) (slots : List ℕ) (track : ℕ) : 
   pub all_end : AllEnd s b
   pub is-track : track < b.initials.count
 
+pub ending : {s : List ℕ} {b : Block} {slots : List ℕ} {track : ℕ} → Ordered s b slots → AllEnd s b → track < b.initials.count → Ending s b slots track
+ending ordered all_end is-track = record { ordered = ordered; all_end = all_end; is-track = is-track }
+
 module _ {s : List ℕ} {b : Block} {slots : List ℕ} {track : ℕ} (e : Ending s b slots track) where
   chained : Chained (links s b) track ((links s b).initial track).next (chain_at s b track)
   chained = is-chain (kind_of b.kind) (links s b) track (chain_at s b track) (e.all_end track e.is-track)

@@ -14,9 +14,6 @@ offset_bounds-slots-i c =
 pub bounds-slots-i : goal.bounds-slots-i
 bounds-slots-i c = lookup-inside c.args.s.now c.args.b c.requires.fits c.args.slots.now c.requires.positions c.requires.indexed c.args.link c.find.result c.in-At.i c.find.ensures c.in-At.is
 
-pub overflow_cast-result : goal.overflow_cast-result
-overflow_cast-result c = omega (arith, c.shared_slice_known-in-At-1.given c.in-At.i)
-
 pub returns-in-At : goal.returns-in-At
 returns-in-At c = lookup-at c.args.s.now c.args.b c.requires.fits c.args.slots.now c.requires.positions c.requires.indexed c.args.link c.find.result c.in-At.i c.find.ensures c.in-At.is
 

@@ -12,9 +12,6 @@ offset_bounds-slots-guess c = omega (arith, c.if-guess-slots.true)
 pub bounds-slots-guess : goal.bounds-slots-guess
 bounds-slots-guess c = c.if-guess-slots.true
 
-pub overflow_cast-p : goal.overflow_cast-p
-overflow_cast-p c = omega (arith, c.shared_slice_known-then-guess-slots-1.given c.args.near.next)
-
 pub index_at-requires : goal.index_at-requires
 index_at-requires c = record { fits = c.requires.fits; p_lt_count = slots-below c.args.s.now c.args.b c.requires.fits c.args.slots.now c.requires.positions _ c.if-guess-slots.true }
 

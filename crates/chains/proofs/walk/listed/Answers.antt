@@ -15,9 +15,6 @@ loop-i-init c = (omega arith, refl)
 pub bounds-list-i : goal.bounds-list-i
 bounds-list-i c = omega (arith, c.requires, c.loop-i-test.true)
 
-pub overflow_cast-list : goal.overflow_cast-list
-overflow_cast-list c = omega (arith, c.shared_slice_known-1.given c.loop-i.i)
-
 pub returns-then-list-i : goal.returns-then-list-i
 returns-then-list-i c = listed-is _ _ _ _ c.loop-i-test.true c.requires c.if-list-i.true
 

@@ -1,6 +1,7 @@
 -- `raise` meets its contract: the bit's weight is added to a place where the bit is 0. Assumes nothing.
 use Prim.Native.Nat.{◌/◌}
 use native.Mathlib.Omega.{arith}
+use borrow.Author.Rules.{rules}
 use Rattle.flags.proofs.Raising.{raised-before, sum_fits, raised-now}
 use Rattle.flags.proofs.bits.raise.Goals as goal
 
@@ -9,7 +10,7 @@ returns-then-is_up c = raised-before c.args.flags.now c.args.x c.is_up.ensures c
 
 pub overflow_add-flags : goal.overflow_add-flags
 overflow_add-flags c =
-    let fits = sum_fits c.args.flags.now c.args.x c.is_up.ensures c.if-is_up.false c.weight.ensures (omega (arith, c.slice_known-2-1.given (c.args.x / 16))) in
+    let fits = sum_fits c.args.flags.now c.args.x c.is_up.ensures c.if-is_up.false c.weight.ensures (search rules) in
     omega (arith, fits)
 
 pub returns : goal.returns

@@ -8,10 +8,10 @@ use native.Mathlib.Omega.{arith}
 use Rattle.keys.proofs.fields.copy_groups.Goals as goal
 
 pub copy_unless-next-requires : goal.copy_unless-next-requires
-copy_unless-next-requires c = (omega arith, room-front _ (cond c.args.first [] (bytes_at c.args.s.now c.args.from 12)) (cond c.args.second [] (bytes_at c.args.s.now (c.args.from + 12) (4 * c.args.more))) c.args.output.now c.requires.1)
+copy_unless-next-requires c = (omega arith, room-front _ _ _ c.args.output.now c.requires.1)
 
 pub copy_unless-requires : goal.copy_unless-requires
-copy_unless-requires c = (omega arith, room_back _ (cond c.args.first [] (bytes_at c.args.s.now c.args.from 12)) (cond c.args.second [] (bytes_at c.args.s.now (c.args.from + 12) (4 * c.args.more))) c.args.output.now c.requires.1 _ _ c.copy_unless-next.ensures)
+copy_unless-requires c = (omega arith, room_back _ _ _ c.args.output.now c.requires.1 _ _ c.copy_unless-next.ensures)
 
 pub returns : goal.returns
-returns c = wrote_then _ (cond c.args.first [] (bytes_at c.args.s.now c.args.from 12)) (cond c.args.second [] (bytes_at c.args.s.now (c.args.from + 12) (4 * c.args.more))) c.args.output.now c.requires.1 _ _ c.copy_unless-next.ensures _ _ c.copy_unless.ensures
+returns c = wrote_then _ _ _ c.args.output.now c.requires.1 _ _ c.copy_unless-next.ensures _ _ c.copy_unless.ensures

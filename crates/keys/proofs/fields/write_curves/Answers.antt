@@ -7,10 +7,10 @@ use mathlib.Core.Bool.{cond}
 use Rattle.keys.proofs.fields.write_curves.Goals as goal
 
 pub three_unless-next-requires : goal.three_unless-next-requires
-three_unless-next-requires c = room-front _ (cond c.args.plain.curves [] (three_curves c.args.curves)) (cond c.args.plain.rotation [] (get_or c.args.curves 3 [])) c.args.output.now c.requires
+three_unless-next-requires c = room-front _ _ _ c.args.output.now c.requires
 
 pub curve_unless-requires : goal.curve_unless-requires
-curve_unless-requires c = room_back _ (cond c.args.plain.curves [] (three_curves c.args.curves)) (cond c.args.plain.rotation [] (get_or c.args.curves 3 [])) c.args.output.now c.requires _ _ c.three_unless-next.ensures
+curve_unless-requires c = room_back _ _ _ c.args.output.now c.requires _ _ c.three_unless-next.ensures
 
 pub returns : goal.returns
-returns c = wrote_then _ (cond c.args.plain.curves [] (three_curves c.args.curves)) (cond c.args.plain.rotation [] (get_or c.args.curves 3 [])) c.args.output.now c.requires _ _ c.three_unless-next.ensures _ _ c.curve_unless.ensures
+returns c = wrote_then _ _ _ c.args.output.now c.requires _ _ c.three_unless-next.ensures _ _ c.curve_unless.ensures

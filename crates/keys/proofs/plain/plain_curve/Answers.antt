@@ -7,5 +7,5 @@ use Rattle.keys.proofs.plain.plain_curve.Goals as goal
 
 pub returns : goal.returns
 returns c =
-    let byte : (i : ℕ) → get_or c.args.s.now i 0 < 256 = λ i. let known = c.shared_slice_known-1.given i in omega (arith, known) in
+    let byte : (i : ℕ) → get_or c.args.s.now i 0 < 256 = λ i. let known = c.type_inv.s i in omega (arith, known) in
     rw c.u32_at.ensures (plain_word _ _ _ _ (byte c.args.at) (byte (c.args.at + 1)) (byte (c.args.at + 2)) (byte (c.args.at + 3)))

@@ -1,5 +1,5 @@
 -- `write_bone_key` meets its contract: the key is its head, its pose and its curves, one behind the other. Assumes nothing.
-use Rattle.keys.proofs.Lengths.{bone-parts}
+use Rattle.keys.proofs.Lengths.{bone-parts, bone-room}
 use Rattle.keys.proofs.Placing.{room-first, room-second, room-third, wrote-three}
 use Rattle.keys.specs.Placed.{Room, head_bytes, pose_bytes, curve_bytes, bone_key_bytes}
 use mathlib.Core.Path.{◌≡◌, refl}
@@ -9,26 +9,15 @@ use Rattle.strip.specs.Plain.{clamped}
 use Rattle.keys.proofs.write.write_bone_key.Goals as goal
 
 pub write_head-pose-requires : goal.write_head-pose-requires
-write_head-pose-requires c =
-    let parts : (head_bytes c.args.frame c.standing-map.result) ++ (pose_bytes c.bone_plain-plain.result c.args.s.now c.args.at) ++ (curve_bytes c.bone_plain-plain.result (map clamped (curves_at c.args.s.now c.args.at))) ≡ bone_key_bytes c.args.s.now c.args.at c.args.frame = bone-parts _ _ _ _ _ _ c.bone_plain-plain.ensures refl c.standing-map.ensures in
-    let room : Room c.args.place ((head_bytes c.args.frame c.standing-map.result) ++ (pose_bytes c.bone_plain-plain.result c.args.s.now c.args.at) ++ (curve_bytes c.bone_plain-plain.result (map clamped (curves_at c.args.s.now c.args.at)))) (c.args.output.now) = rw parts c.requires.1 in
-    room-first _ (head_bytes c.args.frame c.standing-map.result) (pose_bytes c.bone_plain-plain.result c.args.s.now c.args.at) (curve_bytes c.bone_plain-plain.result (map clamped (curves_at c.args.s.now c.args.at))) (c.args.output.now) room
+write_head-pose-requires c = room-first _ _ _ _ _ (bone-room _ _ _ _ _ _ _ _ c.bone_plain-plain.ensures refl c.standing-map.ensures c.requires.1)
 
 pub write_pose-next-requires : goal.write_pose-next-requires
-write_pose-next-requires c =
-    let parts : (head_bytes c.args.frame c.standing-map.result) ++ (pose_bytes c.bone_plain-plain.result c.args.s.now c.args.at) ++ (curve_bytes c.bone_plain-plain.result (map clamped (curves_at c.args.s.now c.args.at))) ≡ bone_key_bytes c.args.s.now c.args.at c.args.frame = bone-parts _ _ _ _ _ _ c.bone_plain-plain.ensures refl c.standing-map.ensures in
-    let room : Room c.args.place ((head_bytes c.args.frame c.standing-map.result) ++ (pose_bytes c.bone_plain-plain.result c.args.s.now c.args.at) ++ (curve_bytes c.bone_plain-plain.result (map clamped (curves_at c.args.s.now c.args.at)))) (c.args.output.now) = rw parts c.requires.1 in
-    (c.requires.0, room-second _ (head_bytes c.args.frame c.standing-map.result) (pose_bytes c.bone_plain-plain.result c.args.s.now c.args.at) (curve_bytes c.bone_plain-plain.result (map clamped (curves_at c.args.s.now c.args.at))) (c.args.output.now) room _ _ c.write_head-pose.ensures)
+write_pose-next-requires c = (c.requires.0, room-second _ _ _ _ _ (bone-room _ _ _ _ _ _ _ _ c.bone_plain-plain.ensures refl c.standing-map.ensures c.requires.1) _ _ c.write_head-pose.ensures)
 
 pub write_curves-requires : goal.write_curves-requires
-write_curves-requires c =
-    let parts : (head_bytes c.args.frame c.standing-map.result) ++ (pose_bytes c.bone_plain-plain.result c.args.s.now c.args.at) ++ (curve_bytes c.bone_plain-plain.result (map clamped (curves_at c.args.s.now c.args.at))) ≡ bone_key_bytes c.args.s.now c.args.at c.args.frame = bone-parts _ _ _ _ _ _ c.bone_plain-plain.ensures refl c.standing-map.ensures in
-    let room : Room c.args.place ((head_bytes c.args.frame c.standing-map.result) ++ (pose_bytes c.bone_plain-plain.result c.args.s.now c.args.at) ++ (curve_bytes c.bone_plain-plain.result (map clamped (curves_at c.args.s.now c.args.at)))) (c.args.output.now) = rw parts c.requires.1 in
-    (c.requires.0, room-third _ (head_bytes c.args.frame c.standing-map.result) (pose_bytes c.bone_plain-plain.result c.args.s.now c.args.at) (curve_bytes c.bone_plain-plain.result (map clamped (curves_at c.args.s.now c.args.at))) (c.args.output.now) room _ _ c.write_head-pose.ensures _ _ c.write_pose-next.ensures)
+write_curves-requires c = (c.requires.0, room-third _ _ _ _ _ (bone-room _ _ _ _ _ _ _ _ c.bone_plain-plain.ensures refl c.standing-map.ensures c.requires.1) _ _ c.write_head-pose.ensures _ _ c.write_pose-next.ensures)
 
 pub returns : goal.returns
 returns c =
-    let parts : (head_bytes c.args.frame c.standing-map.result) ++ (pose_bytes c.bone_plain-plain.result c.args.s.now c.args.at) ++ (curve_bytes c.bone_plain-plain.result (map clamped (curves_at c.args.s.now c.args.at))) ≡ bone_key_bytes c.args.s.now c.args.at c.args.frame = bone-parts _ _ _ _ _ _ c.bone_plain-plain.ensures refl c.standing-map.ensures in
-    let room : Room c.args.place ((head_bytes c.args.frame c.standing-map.result) ++ (pose_bytes c.bone_plain-plain.result c.args.s.now c.args.at) ++ (curve_bytes c.bone_plain-plain.result (map clamped (curves_at c.args.s.now c.args.at)))) (c.args.output.now) = rw parts c.requires.1 in
-    rw (← parts)
-    (wrote-three _ (head_bytes c.args.frame c.standing-map.result) (pose_bytes c.bone_plain-plain.result c.args.s.now c.args.at) (curve_bytes c.bone_plain-plain.result (map clamped (curves_at c.args.s.now c.args.at))) (c.args.output.now) room _ _ c.write_head-pose.ensures _ _ c.write_pose-next.ensures _ _ c.write_curves.ensures)
+    rw (← bone-parts _ _ _ _ _ _ c.bone_plain-plain.ensures refl c.standing-map.ensures)
+    (wrote-three _ _ _ _ _ (bone-room _ _ _ _ _ _ _ _ c.bone_plain-plain.ensures refl c.standing-map.ensures c.requires.1) _ _ c.write_head-pose.ensures _ _ c.write_pose-next.ensures _ _ c.write_curves.ensures)

@@ -1,5 +1,5 @@
 -- `mark_tracks` meets its contract. Assumes nothing.
-use Rattle.marks.proofs.Passing.{no-track, as_many, all-tracks, few-links, one-track}
+use Rattle.marks.proofs.Passing.{ending, no-track, as_many, all-tracks, few-links, one-track}
 use Rattle.marks.proofs.Following.{Ending}
 use Rattle.chains.specs.Block.{kind_of, links}
 use lib.ListN.{length, length-replicate}
@@ -15,8 +15,7 @@ mark_chain-reached-requires c = record { ordered = c.requires.ordered; all_end =
 
 pub overflow_add-reached : goal.overflow_add-reached
 overflow_add-reached c =
-    let ending : Ending (kind_of c.args.b.kind) (links c.args.s.now c.args.b) c.loop-track.track = record { indexed = c.requires.ordered.indexed; is-track = c.loop-track-test.true; ended = c.requires.all_end _ c.loop-track-test.true } in
-    let more = few-links c.loop-track.invariant ending c.requires.ordered.fits.few_records c.mark_chain-reached.ensures.value in
+    let more = few-links c.loop-track.invariant (ending c.requires.ordered c.loop-track-test.true (c.requires.all_end _ c.loop-track-test.true)) c.requires.ordered.fits.few_records c.mark_chain-reached.ensures.value in
     omega arith
 
 pub overflow_add-track : goal.overflow_add-track
@@ -24,8 +23,7 @@ overflow_add-track c = omega arith
 
 pub loop-track-preserved : goal.loop-track-preserved
 loop-track-preserved c =
-    let ending : Ending (kind_of c.args.b.kind) (links c.args.s.now c.args.b) c.loop-track.track = record { indexed = c.requires.ordered.indexed; is-track = c.loop-track-test.true; ended = c.requires.all_end _ c.loop-track-test.true } in
-    one-track c.loop-track.invariant ending c.requires.ordered.fits.few_records c.mark_chain-reached.ensures.value c.mark_chain-reached.ensures.marks_after
+    one-track c.loop-track.invariant (ending c.requires.ordered c.loop-track-test.true (c.requires.all_end _ c.loop-track-test.true)) c.requires.ordered.fits.few_records c.mark_chain-reached.ensures.value c.mark_chain-reached.ensures.marks_after
 
 pub shape_of-marks : goal.shape_of-marks
 shape_of-marks c = as_many c.loop-track.invariant ∙ sym (ap length c.requires.marks_value ∙ length-replicate c.args.b.records.count 0)

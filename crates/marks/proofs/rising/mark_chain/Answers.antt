@@ -11,6 +11,7 @@ use mathlib.Core.Option.{some}
 use mathlib.Core.Path.{◌≡◌, refl, sym, ap, ◌∙◌}
 use Prim.Native.Nat.{◌<◌}
 use native.Mathlib.Omega.{arith}
+use Rattle.marks.proofs.Passing.{found, found-inside}
 use Rattle.marks.proofs.rising.mark_chain.Goals as goal
 
 pub initial_key-requires : goal.initial_key-requires
@@ -47,65 +48,34 @@ pub returns-in-Absent : goal.returns-in-Absent
 returns-in-Absent c = record { chain_marked = tt; marks_len_unchanged = rising.same_length c.args.s.now c.args.b c.args.track _ c.requires.ordered c.requires.track_lt_count _ _ _ _ _ _ c.loop-link.invariant }
 
 pub behind-requires : goal.behind-requires
-behind-requires c =
-    let found : record_of (links c.args.s.now c.args.b) (c.loop-link.link) ≡ some (c.in-At.p) = sym c.lookup.ensures ∙ ap found_read c.in-At.is in
-    let inside : (c.in-At.p) < c.args.b.records.count = rising.inside c.args.s.now c.args.b c.args.track _ c.requires.ordered c.requires.track_lt_count _ _ _ _ _ _ c.loop-link.invariant c.loop-link-test.true (c.in-At.p) found in
-    record { fits = c.requires.ordered.fits; p_lt_count = inside }
+behind-requires c = record { fits = c.requires.ordered.fits; p_lt_count = found-inside c.args.s.now c.args.b _ _ c.lookup.ensures c.in-At.is }
 
 pub shape_of-marks-then-not-behind : goal.shape_of-marks-then-not-behind
-shape_of-marks-then-not-behind c =
-    let same : length c.loop-link.marks ≡ length c.args.marks.now = rising.same_length c.args.s.now c.args.b c.args.track _ c.requires.ordered c.requires.track_lt_count _ _ _ _ _ _ c.loop-link.invariant in
-    same
+shape_of-marks-then-not-behind c = rising.same_length c.args.s.now c.args.b c.args.track _ c.requires.ordered c.requires.track_lt_count _ _ _ _ _ _ c.loop-link.invariant
 
 pub returns-then-not-behind : goal.returns-then-not-behind
-returns-then-not-behind c =
-    let same : length c.loop-link.marks ≡ length c.args.marks.now = rising.same_length c.args.s.now c.args.b c.args.track _ c.requires.ordered c.requires.track_lt_count _ _ _ _ _ _ c.loop-link.invariant in
-    record { chain_marked = tt; marks_len_unchanged = same }
+returns-then-not-behind c = record { chain_marked = tt; marks_len_unchanged = rising.same_length c.args.s.now c.args.b c.args.track _ c.requires.ordered c.requires.track_lt_count _ _ _ _ _ _ c.loop-link.invariant }
 
 pub offset_bounds-marks-p : goal.offset_bounds-marks-p
-offset_bounds-marks-p c =
-    let found : record_of (links c.args.s.now c.args.b) (c.loop-link.link) ≡ some (c.in-At.p) = sym c.lookup.ensures ∙ ap found_read c.in-At.is in
-    let inside : (c.in-At.p) < c.args.b.records.count = rising.inside c.args.s.now c.args.b c.args.track _ c.requires.ordered c.requires.track_lt_count _ _ _ _ _ _ c.loop-link.invariant c.loop-link-test.true (c.in-At.p) found in
-    let below = inside in omega (arith, below, c.requires.ordered.fits.few_records)
+offset_bounds-marks-p c = omega (arith, found-inside c.args.s.now c.args.b _ _ c.lookup.ensures c.in-At.is, c.requires.ordered.fits.few_records)
 
 pub bounds-marks-p : goal.bounds-marks-p
-bounds-marks-p c =
-    let found : record_of (links c.args.s.now c.args.b) (c.loop-link.link) ≡ some (c.in-At.p) = sym c.lookup.ensures ∙ ap found_read c.in-At.is in
-    let inside : (c.in-At.p) < c.args.b.records.count = rising.inside c.args.s.now c.args.b c.args.track _ c.requires.ordered c.requires.track_lt_count _ _ _ _ _ _ c.loop-link.invariant c.loop-link-test.true (c.in-At.p) found in
-    let same : length c.loop-link.marks ≡ length c.args.marks.now = rising.same_length c.args.s.now c.args.b c.args.track _ c.requires.ordered c.requires.track_lt_count _ _ _ _ _ _ c.loop-link.invariant in
-    let below = inside in let as_long = same in omega (arith, below, c.requires.marks_len, as_long)
+bounds-marks-p c = omega (arith, found-inside c.args.s.now c.args.b _ _ c.lookup.ensures c.in-At.is, c.requires.marks_len, rising.same_length c.args.s.now c.args.b c.args.track _ c.requires.ordered c.requires.track_lt_count _ _ _ _ _ _ c.loop-link.invariant)
 
 pub overflow_add-n : goal.overflow_add-n
-overflow_add-n c =
-    let found : record_of (links c.args.s.now c.args.b) (c.loop-link.link) ≡ some (c.in-At.p) = sym c.lookup.ensures ∙ ap found_read c.in-At.is in
-    let stands : Behind c.args.s.now c.args.b c.args.track (c.in-At.p) c.loop-link.expected c.loop-link.frame = c.behind.ensures c.if-not-behind.false _ in
-    let room : c.loop-link.n < c.args.b.records.count = rising.room c.args.s.now c.args.b c.args.track _ c.requires.ordered c.requires.track_lt_count _ _ _ _ _ _ c.loop-link.invariant c.loop-link-test.true (c.in-At.p) found stands in
-    let less = room in omega (arith, less, c.requires.ordered.fits.few_records)
+overflow_add-n c = omega (arith, rising.room c.args.s.now c.args.b c.args.track _ c.requires.ordered c.requires.track_lt_count _ _ _ _ _ _ c.loop-link.invariant c.loop-link-test.true _ (found c.args.s.now c.args.b _ _ c.lookup.ensures c.in-At.is) (c.behind.ensures c.if-not-behind.false _), c.requires.ordered.fits.few_records)
 
 pub frame_at-frame-requires : goal.frame_at-frame-requires
-frame_at-frame-requires c =
-    let found : record_of (links c.args.s.now c.args.b) (c.loop-link.link) ≡ some (c.in-At.p) = sym c.lookup.ensures ∙ ap found_read c.in-At.is in
-    let inside : (c.in-At.p) < c.args.b.records.count = rising.inside c.args.s.now c.args.b c.args.track _ c.requires.ordered c.requires.track_lt_count _ _ _ _ _ _ c.loop-link.invariant c.loop-link-test.true (c.in-At.p) found in
-    record { fits = c.requires.ordered.fits; p_lt_count = inside }
+frame_at-frame-requires c = record { fits = c.requires.ordered.fits; p_lt_count = found-inside c.args.s.now c.args.b _ _ c.lookup.ensures c.in-At.is }
 
 pub next_at-link-requires : goal.next_at-link-requires
-next_at-link-requires c =
-    let found : record_of (links c.args.s.now c.args.b) (c.loop-link.link) ≡ some (c.in-At.p) = sym c.lookup.ensures ∙ ap found_read c.in-At.is in
-    let inside : (c.in-At.p) < c.args.b.records.count = rising.inside c.args.s.now c.args.b c.args.track _ c.requires.ordered c.requires.track_lt_count _ _ _ _ _ _ c.loop-link.invariant c.loop-link-test.true (c.in-At.p) found in
-    record { fits = c.requires.ordered.fits; p_lt_count = inside }
+next_at-link-requires c = record { fits = c.requires.ordered.fits; p_lt_count = found-inside c.args.s.now c.args.b _ _ c.lookup.ensures c.in-At.is }
 
 pub loop-link-smaller : goal.loop-link-smaller
-loop-link-smaller c =
-    let found : record_of (links c.args.s.now c.args.b) (c.loop-link.link) ≡ some (c.in-At.p) = sym c.lookup.ensures ∙ ap found_read c.in-At.is in
-    let stands : Behind c.args.s.now c.args.b c.args.track (c.in-At.p) c.loop-link.expected c.loop-link.frame = c.behind.ensures c.if-not-behind.false _ in
-    let room : c.loop-link.n < c.args.b.records.count = rising.room c.args.s.now c.args.b c.args.track _ c.requires.ordered c.requires.track_lt_count _ _ _ _ _ _ c.loop-link.invariant c.loop-link-test.true (c.in-At.p) found stands in
-    let less = room in omega (arith, less)
+loop-link-smaller c = omega (arith, rising.room c.args.s.now c.args.b c.args.track _ c.requires.ordered c.requires.track_lt_count _ _ _ _ _ _ c.loop-link.invariant c.loop-link-test.true _ (found c.args.s.now c.args.b _ _ c.lookup.ensures c.in-At.is) (c.behind.ensures c.if-not-behind.false _))
 
 pub loop-link-preserved : goal.loop-link-preserved
-loop-link-preserved c =
-    let found : record_of (links c.args.s.now c.args.b) (c.loop-link.link) ≡ some (c.in-At.p) = sym c.lookup.ensures ∙ ap found_read c.in-At.is in
-    let stands : Behind c.args.s.now c.args.b c.args.track (c.in-At.p) c.loop-link.expected c.loop-link.frame = c.behind.ensures c.if-not-behind.false _ in
-    rising.goes_on c.args.s.now c.args.b c.args.track _ c.requires.ordered c.requires.track_lt_count _ _ _ _ _ _ c.loop-link.invariant c.loop-link-test.true (c.in-At.p) found stands _ _ c.next_at-link.ensures c.frame_at-frame.ensures
+loop-link-preserved c = rising.goes_on c.args.s.now c.args.b c.args.track _ c.requires.ordered c.requires.track_lt_count _ _ _ _ _ _ c.loop-link.invariant c.loop-link-test.true _ (found c.args.s.now c.args.b _ _ c.lookup.ensures c.in-At.is) (c.behind.ensures c.if-not-behind.false _) _ _ c.next_at-link.ensures c.frame_at-frame.ensures
 
 pub shape_of-marks : goal.shape_of-marks
 shape_of-marks c = rising.same_length c.args.s.now c.args.b c.args.track _ c.requires.ordered c.requires.track_lt_count _ _ _ _ _ _ c.loop-link.invariant

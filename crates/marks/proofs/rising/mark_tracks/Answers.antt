@@ -1,6 +1,6 @@
 -- `mark_tracks` meets its contract. Assumes nothing.
 use Rattle.marks.proofs.RisingChains.{told}
-use Rattle.marks.proofs.Passing.{no-track, as_many, all-tracks, few-links, one-track}
+use Rattle.marks.proofs.Passing.{ending, no-track, as_many, all-tracks, few-links, one-track}
 use Rattle.marks.proofs.Following.{Ending}
 use Rattle.marks.specs.Rising.{OneMarked}
 use Rattle.track_keys.proofs.Meets.{track-more}
@@ -35,8 +35,7 @@ returns-in-Otherwise c = record { tracks_marked = tt; marks_len_unchanged = c.ma
 pub overflow_add-reached : goal.overflow_add-reached
 overflow_add-reached c =
     let one : OneMarked c.args.s.now c.args.b c.loop-track.track c.loop-track.marks c.mark_chain.new.marks (c.in-Links.n) = told _ _ _ _ _ _ _ c.mark_chain.ensures.chain_marked c.in-Links.is in
-    let ending : Ending (kind_of c.args.b.kind) (links c.args.s.now c.args.b) c.loop-track.track = record { indexed = c.requires.ordered.indexed; is-track = c.loop-track-test.true; ended = one.ends } in
-    let more = few-links c.loop-track.invariant.0 ending c.requires.ordered.fits.few_records one.length in
+    let more = few-links c.loop-track.invariant.0 (ending c.requires.ordered c.loop-track-test.true one.ends) c.requires.ordered.fits.few_records one.length in
     omega (arith, more, c.loop-track.invariant.0.most, c.loop-track.invariant.0.within, c.requires.ordered.fits.few_tracks)
 
 pub overflow_add-track : goal.overflow_add-track
@@ -48,8 +47,7 @@ loop-track-smaller c = omega (arith, c.loop-track-test.true)
 pub loop-track-preserved : goal.loop-track-preserved
 loop-track-preserved c =
     let one : OneMarked c.args.s.now c.args.b c.loop-track.track c.loop-track.marks c.mark_chain.new.marks (c.in-Links.n) = told _ _ _ _ _ _ _ c.mark_chain.ensures.chain_marked c.in-Links.is in
-    let ending : Ending (kind_of c.args.b.kind) (links c.args.s.now c.args.b) c.loop-track.track = record { indexed = c.requires.ordered.indexed; is-track = c.loop-track-test.true; ended = one.ends } in
-    (one-track c.loop-track.invariant.0 ending c.requires.ordered.fits.few_records one.length one.marks, track-more c.args.s.now c.args.b _ c.loop-track.invariant.1 one.passes)
+    (one-track c.loop-track.invariant.0 (ending c.requires.ordered c.loop-track-test.true one.ends) c.requires.ordered.fits.few_records one.length one.marks, track-more c.args.s.now c.args.b _ c.loop-track.invariant.1 one.passes)
 
 pub shape_of-marks : goal.shape_of-marks
 shape_of-marks c = as_many c.loop-track.invariant.0 ∙ sym (ap length c.requires.marks_value ∙ length-replicate c.args.b.records.count 0)

@@ -5,9 +5,6 @@ use mathlib.Core.Path.{sym, ◌∙◌}
 use Rattle.order.proofs.FirstPlaces.{too_few, only_one, two-found}
 use Rattle.order.proofs.met.first_two.Goals as goal
 
-pub overflow_cast-slots : goal.overflow_cast-slots
-overflow_cast-slots c = omega (arith, c.shared_slice_known-then-slots-first-gt1-1.given (c.first_place-first.result + 1))
-
 pub number_at-requires : goal.number_at-requires
 number_at-requires c = record { p_lt_count = c.requires.all_below _ (omega arith); within = c.requires.within }
 

@@ -10,9 +10,6 @@ loop-i-init c = pass-start _ _ _ _
 pub equals_before-requires : goal.equals_before-requires
 equals_before-requires c = record { within = c.requires.within; all_below = c.requires.all_below; i_nonzero = c.loop-i.invariant.started; i_in_bounds = c.loop-i-test.true }
 
-pub overflow_cast-here : goal.overflow_cast-here
-overflow_cast-here c = omega (arith, c.shared_slice_known-then-equals_before-1.given c.loop-i.i)
-
 pub loop-i-preserved : goal.loop-i-preserved
 loop-i-preserved c =
     elim c.if-equals_before.branch [

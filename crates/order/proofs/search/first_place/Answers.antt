@@ -7,9 +7,6 @@ use Rattle.order.proofs.search.first_place.Goals as goal
 pub loop-low-init : goal.loop-low-init
 loop-low-init c = bounds-start _ _ _
 
-pub overflow_cast-slots : goal.overflow_cast-slots
-overflow_cast-slots c = omega (arith, c.shared_slice_known-in-loop-low-1.given (c.loop-low.low + (c.loop-low.high - c.loop-low.low) / 2))
-
 pub number_at-requires : goal.number_at-requires
 number_at-requires c = record { p_lt_count = c.requires.all_below _ (omega arith); within = c.requires.within }
 

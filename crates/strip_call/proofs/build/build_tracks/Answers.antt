@@ -9,8 +9,7 @@ use Rattle.strip_call.proofs.build.build_tracks.Goals as goal
 
 pub count-requires : goal.count-requires
 count-requires c =
-    let marked : AllMarked c.args.s.now c.args.b c.mark_rising.new.marks c.in-Links.reached = subst (λ (k : Rising). TracksMarked c.args.s.now c.args.b c.mark_rising.new.marks k) c.in-Links.is c.mark_rising.ensures.tracks_marked in
-    let all = marked in
+    let all : AllMarked c.args.s.now c.args.b c.mark_rising.new.marks c.in-Links.reached = subst (λ (k : Rising). TracksMarked c.args.s.now c.args.b c.mark_rising.new.marks k) c.in-Links.is c.mark_rising.ensures.tracks_marked in
     record { fits = c.requires.ordered.fits; indexed = c.requires.ordered.indexed; all_end = all_end c.args.s.now c.args.b all.passes; reached_value = all.followed; marks_value = all.marks }
 
 pub build_any-requires : goal.build_any-requires
@@ -21,8 +20,7 @@ shape_of-marks-in-Links c = c.mark_rising.ensures.marks_len_unchanged
 
 pub returns-in-Links : goal.returns-in-Links
 returns-in-Links c =
-    let marked : AllMarked c.args.s.now c.args.b c.mark_rising.new.marks c.in-Links.reached = subst (λ (k : Rising). TracksMarked c.args.s.now c.args.b c.mark_rising.new.marks k) c.in-Links.is c.mark_rising.ensures.tracks_marked in
-    let all = marked in
+    let all : AllMarked c.args.s.now c.args.b c.mark_rising.new.marks c.in-Links.reached = subst (λ (k : Rising). TracksMarked c.args.s.now c.args.b c.mark_rising.new.marks k) c.in-Links.is c.mark_rising.ensures.tracks_marked in
     let told = reports c.args.s.now c.args.b _ c.count.ensures c.requires.b_value all.passes c.args.slots.now c.mark_rising.new.marks c.requires.ordered all.marks in
     record { builds = subst (λ (k : BuiltKind). Builds c.args.s.now c.args.b c.args.slots.now c.mark_rising.new.marks k) (sym c.report.ensures) told; marks_len_unchanged = c.mark_rising.ensures.marks_len_unchanged }
 

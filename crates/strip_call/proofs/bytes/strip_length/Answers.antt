@@ -12,18 +12,10 @@ pub tracks_length-of_morphs-requires : goal.tracks_length-of_morphs-requires
 tracks_length-of_morphs-requires c = record { ordered = morphs-in c.requires; all_end = c.requires.morph_ends }
 
 pub overflow_add-result : goal.overflow_add-result
-overflow_add-result c =
-    let short : 4 + c.tracks_length-of_bones.result + c.tracks_length-of_morphs.result ≤ length c.args.s.now = let all = measured c.requires in
-    omega arith in
-    omega (arith, short)
+overflow_add-result c = let all = measured c.requires in omega arith
 
 pub overflow_add-result-2 : goal.overflow_add-result-2
-overflow_add-result-2 c =
-    let short : 4 + c.tracks_length-of_bones.result + c.tracks_length-of_morphs.result ≤ length c.args.s.now = let all = measured c.requires in
-    omega arith in
-    omega (arith, short)
+overflow_add-result-2 c = let all = measured c.requires in omega arith
 
 pub returns : goal.returns
-returns c =
-    let all = measured c.requires in
-    omega arith
+returns c = let all = measured c.requires in omega arith

@@ -20,11 +20,7 @@ pub write_tracks-requires : goal.write_tracks-requires
 write_tracks-requires c = record { ordered = morphs-in c.requires.readable; all_end = c.requires.readable.morph_ends; room = morphs-fit c.requires.readable _ c.requires.room c.write_count.ensures c.write_count-2.ensures c.write_tracks-behind.ensures }
 
 pub shape_of-output : goal.shape_of-output
-shape_of-output c =
-    let wrote : Wrote 0 (strip_bytes c.args.s.now c.args.bones c.args.morphs) c.args.output.now c.write_tracks.result c.write_tracks.new.output = all-written c.requires.readable _ c.requires.room c.write_count.ensures c.write_count-2.ensures c.write_tracks-behind.ensures c.write_tracks.ensures in
-    wrote-length c.requires.room wrote
+shape_of-output c = wrote-length c.requires.room (all-written c.requires.readable _ c.requires.room c.write_count.ensures c.write_count-2.ensures c.write_tracks-behind.ensures c.write_tracks.ensures)
 
 pub returns : goal.returns
-returns c =
-    let wrote : Wrote 0 (strip_bytes c.args.s.now c.args.bones c.args.morphs) c.args.output.now c.write_tracks.result c.write_tracks.new.output = all-written c.requires.readable _ c.requires.room c.write_count.ensures c.write_count-2.ensures c.write_tracks-behind.ensures c.write_tracks.ensures in
-    wrote
+returns c = all-written c.requires.readable _ c.requires.room c.write_count.ensures c.write_count-2.ensures c.write_tracks-behind.ensures c.write_tracks.ensures

@@ -11,9 +11,6 @@ use Rattle.track_keys.proofs.close.key_span.Goals as goal
 pub loop-i-init : goal.loop-i-init
 loop-i-init c = (omega arith, spans-one _ _ c.first_frame-first.ensures)
 
-pub overflow_cast-list : goal.overflow_cast-list
-overflow_cast-list c = omega (arith, c.shared_slice_known-in-loop-i-1.given c.loop-i.i)
-
 pub frame_at-requires : goal.frame_at-requires
 frame_at-requires c = record { fits = c.requires.fits; p_lt_count = c.requires.all_below _ c.loop-i-test.true }
 

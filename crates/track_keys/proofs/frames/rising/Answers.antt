@@ -13,9 +13,6 @@ use Rattle.track_keys.proofs.frames.rising.Goals as goal
 pub loop-i-init : goal.loop-i-init
 loop-i-init c = (c.first_frame-last.ensures, rising-starts _ _)
 
-pub overflow_cast-list : goal.overflow_cast-list
-overflow_cast-list c = omega (arith, c.shared_slice_known-in-loop-i-1.given c.loop-i.i)
-
 pub frame_at-frame-requires : goal.frame_at-frame-requires
 frame_at-frame-requires c = record { fits = c.requires.fits; p_lt_count = listed_below c.args.s.now c.args.b c.args.track c.args.n c.args.list.now c.requires.listed c.requires.n_in_bounds _ c.loop-i-test.true }
 

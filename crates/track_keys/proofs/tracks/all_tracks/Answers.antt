@@ -1,5 +1,5 @@
 -- `all_tracks` meets its contract. Assumes nothing.
-use Rattle.track_keys.proofs.Asking.{Ready-track, keyed, refused, asking, position-below, record-refused, asking-more, tracking-more, tracked-all}
+use Rattle.track_keys.proofs.Asking.{ready-track, few-keys, keys-inside, refused, asking, position-below, record-refused, asking-more, tracking-more, tracked-all}
 use Rattle.track_keys.proofs.Meets.{all_meet}
 use Rattle.clip.specs.First.{first}
 use lib.ListN.{length}
@@ -16,152 +16,56 @@ pub make_ready-requires : goal.make_ready-requires
 make_ready-requires c = record { ordered = c.requires.ordered; track_lt_count = c.tracks-test.true; count_in_bounds = omega arith }
 
 pub loop-i-init : goal.loop-i-init
-loop-i-init c =
-    let as_long : length (c.make_ready.new.list) ≡ length c.args.list.now = c.make_ready.ensures.list_len_unchanged ∙ c.tracks.invariant.same in
-    let ready : Ready-track c.args.s.now c.args.b c.args.slots.now c.tracks.track (c.make_ready.new.list) (c.in-Keys.n) c.in-Keys.again = record {
-      ordered = c.requires.ordered;
-      is-track = c.tracks-test.true;
-      room = omega (arith, as_long);
-      keys = keyed _ _ _ _ _ c.make_ready.ensures.readies _ _ c.in-Keys.is;
-    } in
-    asking ready c.tracks.invariant.nothing
+loop-i-init c = asking (ready-track _ _ c.requires.ordered c.tracks-test.true c.requires.count_in_bounds (c.make_ready.ensures.list_len_unchanged ∙ c.tracks.invariant.same) c.make_ready.ensures.readies c.in-Keys.is) c.tracks.invariant.nothing
 
 pub offset_bounds-list-i : goal.offset_bounds-list-i
-offset_bounds-list-i c =
-    let as_long : length (c.make_ready.new.list) ≡ length c.args.list.now = c.make_ready.ensures.list_len_unchanged ∙ c.tracks.invariant.same in
-    let ready : Ready-track c.args.s.now c.args.b c.args.slots.now c.tracks.track (c.make_ready.new.list) (c.in-Keys.n) c.in-Keys.again = record {
-      ordered = c.requires.ordered;
-      is-track = c.tracks-test.true;
-      room = omega (arith, as_long);
-      keys = keyed _ _ _ _ _ c.make_ready.ensures.readies _ _ c.in-Keys.is;
-    } in
-    let few : ((c.in-Keys.n) ≤ 65534) × ((c.in-Keys.n) ≤ length (c.make_ready.new.list)) = let many = ready.keys.many in
-    let room = ready.room in
-    (omega arith, omega arith) in
-    omega (arith, few.0)
+offset_bounds-list-i c = omega (arith, few-keys (ready-track _ _ c.requires.ordered c.tracks-test.true c.requires.count_in_bounds (c.make_ready.ensures.list_len_unchanged ∙ c.tracks.invariant.same) c.make_ready.ensures.readies c.in-Keys.is))
 
 pub bounds-list-i : goal.bounds-list-i
-bounds-list-i c =
-    let as_long : length (c.make_ready.new.list) ≡ length c.args.list.now = c.make_ready.ensures.list_len_unchanged ∙ c.tracks.invariant.same in
-    let ready : Ready-track c.args.s.now c.args.b c.args.slots.now c.tracks.track (c.make_ready.new.list) (c.in-Keys.n) c.in-Keys.again = record {
-      ordered = c.requires.ordered;
-      is-track = c.tracks-test.true;
-      room = omega (arith, as_long);
-      keys = keyed _ _ _ _ _ c.make_ready.ensures.readies _ _ c.in-Keys.is;
-    } in
-    let few : ((c.in-Keys.n) ≤ 65534) × ((c.in-Keys.n) ≤ length (c.make_ready.new.list)) = let many = ready.keys.many in
-    let room = ready.room in
-    (omega arith, omega arith) in
-    omega (arith, few.1)
+bounds-list-i c = omega (arith, keys-inside (ready-track _ _ c.requires.ordered c.tracks-test.true c.requires.count_in_bounds (c.make_ready.ensures.list_len_unchanged ∙ c.tracks.invariant.same) c.make_ready.ensures.readies c.in-Keys.is))
 
 pub overflow_cast-list : goal.overflow_cast-list
 overflow_cast-list c =
-    let as_long : length (c.make_ready.new.list) ≡ length c.args.list.now = c.make_ready.ensures.list_len_unchanged ∙ c.tracks.invariant.same in
-    let ready : Ready-track c.args.s.now c.args.b c.args.slots.now c.tracks.track (c.make_ready.new.list) (c.in-Keys.n) c.in-Keys.again = record {
-      ordered = c.requires.ordered;
-      is-track = c.tracks-test.true;
-      room = omega (arith, as_long);
-      keys = keyed _ _ _ _ _ c.make_ready.ensures.readies _ _ c.in-Keys.is;
-    } in
-    let known = ready in
+    let known = ready-track _ _ c.requires.ordered c.tracks-test.true c.requires.count_in_bounds (c.make_ready.ensures.list_len_unchanged ∙ c.tracks.invariant.same) c.make_ready.ensures.readies c.in-Keys.is in
     let below = position-below known c.loop-i.i c.loop-i-test.true in
-    let most = known.ordered.fits.few_records in
-    omega arith
+    omega (arith, below, known.ordered.fits.few_records)
 
 pub overflow_add-i : goal.overflow_add-i
-overflow_add-i c =
-    let as_long : length (c.make_ready.new.list) ≡ length c.args.list.now = c.make_ready.ensures.list_len_unchanged ∙ c.tracks.invariant.same in
-    let ready : Ready-track c.args.s.now c.args.b c.args.slots.now c.tracks.track (c.make_ready.new.list) (c.in-Keys.n) c.in-Keys.again = record {
-      ordered = c.requires.ordered;
-      is-track = c.tracks-test.true;
-      room = omega (arith, as_long);
-      keys = keyed _ _ _ _ _ c.make_ready.ensures.readies _ _ c.in-Keys.is;
-    } in
-    let few : ((c.in-Keys.n) ≤ 65534) × ((c.in-Keys.n) ≤ length (c.make_ready.new.list)) = let many = ready.keys.many in
-    let room = ready.room in
-    (omega arith, omega arith) in
-    omega (arith, few.0)
+overflow_add-i c = omega (arith, few-keys (ready-track _ _ c.requires.ordered c.tracks-test.true c.requires.count_in_bounds (c.make_ready.ensures.list_len_unchanged ∙ c.tracks.invariant.same) c.make_ready.ensures.readies c.in-Keys.is))
 
 pub record_key-requires : goal.record_key-requires
 record_key-requires c =
-    let as_long : length (c.make_ready.new.list) ≡ length c.args.list.now = c.make_ready.ensures.list_len_unchanged ∙ c.tracks.invariant.same in
-    let ready : Ready-track c.args.s.now c.args.b c.args.slots.now c.tracks.track (c.make_ready.new.list) (c.in-Keys.n) c.in-Keys.again = record {
-      ordered = c.requires.ordered;
-      is-track = c.tracks-test.true;
-      room = omega (arith, as_long);
-      keys = keyed _ _ _ _ _ c.make_ready.ensures.readies _ _ c.in-Keys.is;
-    } in
-    let known = ready in
+    let known = ready-track _ _ c.requires.ordered c.tracks-test.true c.requires.count_in_bounds (c.make_ready.ensures.list_len_unchanged ∙ c.tracks.invariant.same) c.make_ready.ensures.readies c.in-Keys.is in
     record { fits = known.ordered.fits; p_lt_count = position-below known c.loop-i.i c.loop-i-test.true; track_lt_count = known.is-track }
 
 pub overflow_add-i-in-loop-i : goal.overflow_add-i-in-loop-i
-overflow_add-i-in-loop-i c =
-    let as_long : length (c.make_ready.new.list) ≡ length c.args.list.now = c.make_ready.ensures.list_len_unchanged ∙ c.tracks.invariant.same in
-    let ready : Ready-track c.args.s.now c.args.b c.args.slots.now c.tracks.track (c.make_ready.new.list) (c.in-Keys.n) c.in-Keys.again = record {
-      ordered = c.requires.ordered;
-      is-track = c.tracks-test.true;
-      room = omega (arith, as_long);
-      keys = keyed _ _ _ _ _ c.make_ready.ensures.readies _ _ c.in-Keys.is;
-    } in
-    let few : ((c.in-Keys.n) ≤ 65534) × ((c.in-Keys.n) ≤ length (c.make_ready.new.list)) = let many = ready.keys.many in
-    let room = ready.room in
-    (omega arith, omega arith) in
-    omega (arith, few.0)
+overflow_add-i-in-loop-i c = omega (arith, few-keys (ready-track _ _ c.requires.ordered c.tracks-test.true c.requires.count_in_bounds (c.make_ready.ensures.list_len_unchanged ∙ c.tracks.invariant.same) c.make_ready.ensures.readies c.in-Keys.is))
 
 pub loop-i-preserved : goal.loop-i-preserved
-loop-i-preserved c =
-    let as_long : length (c.make_ready.new.list) ≡ length c.args.list.now = c.make_ready.ensures.list_len_unchanged ∙ c.tracks.invariant.same in
-    let ready : Ready-track c.args.s.now c.args.b c.args.slots.now c.tracks.track (c.make_ready.new.list) (c.in-Keys.n) c.in-Keys.again = record {
-      ordered = c.requires.ordered;
-      is-track = c.tracks-test.true;
-      room = omega (arith, as_long);
-      keys = keyed _ _ _ _ _ c.make_ready.ensures.readies _ _ c.in-Keys.is;
-    } in
-    asking-more ready c.loop-i-test.true _ c.loop-i.invariant c.record_key.ensures c.in-Nothing.is
+loop-i-preserved c = asking-more (ready-track _ _ c.requires.ordered c.tracks-test.true c.requires.count_in_bounds (c.make_ready.ensures.list_len_unchanged ∙ c.tracks.invariant.same) c.make_ready.ensures.readies c.in-Keys.is) c.loop-i-test.true _ c.loop-i.invariant c.record_key.ensures c.in-Nothing.is
 
 pub overflow_add-track : goal.overflow_add-track
 overflow_add-track c = omega arith
 
 pub tracks-preserved : goal.tracks-preserved
-tracks-preserved c =
-    let as_long : length (c.make_ready.new.list) ≡ length c.args.list.now = c.make_ready.ensures.list_len_unchanged ∙ c.tracks.invariant.same in
-    let ready : Ready-track c.args.s.now c.args.b c.args.slots.now c.tracks.track (c.make_ready.new.list) (c.in-Keys.n) c.in-Keys.again = record {
-      ordered = c.requires.ordered;
-      is-track = c.tracks-test.true;
-      room = omega (arith, as_long);
-      keys = keyed _ _ _ _ _ c.make_ready.ensures.readies _ _ c.in-Keys.is;
-    } in
-    tracking-more ready c.loop-i-test.false c.loop-i.invariant c.tracks.invariant as_long
+tracks-preserved c = tracking-more (ready-track _ _ c.requires.ordered c.tracks-test.true c.requires.count_in_bounds (c.make_ready.ensures.list_len_unchanged ∙ c.tracks.invariant.same) c.make_ready.ensures.readies c.in-Keys.is) c.loop-i-test.false c.loop-i.invariant c.tracks.invariant (c.make_ready.ensures.list_len_unchanged ∙ c.tracks.invariant.same)
 
 pub shape_of-list-after-tracks : goal.shape_of-list-after-tracks
 shape_of-list-after-tracks c = c.tracks.invariant.same
 
 pub returns-after-tracks : goal.returns-after-tracks
-returns-after-tracks c = record { result_value = tracked-all c.args.s.now c.args.b c.args.list.now c.tracks.list c.tracks.met-1 c.tracks.track c.tracks.invariant c.tracks-test.false; list_len_unchanged = c.tracks.invariant.same }
+returns-after-tracks c = record { result_value = tracked-all c.args.s.now c.args.b c.args.list.now c.tracks.list _ c.tracks.track c.tracks.invariant c.tracks-test.false; list_len_unchanged = c.tracks.invariant.same }
 
 pub shape_of-list-in-Refused : goal.shape_of-list-in-Refused
-shape_of-list-in-Refused c =
-    let as_long : length (c.make_ready.new.list) ≡ length c.args.list.now = c.make_ready.ensures.list_len_unchanged ∙ c.tracks.invariant.same in
-    as_long
+shape_of-list-in-Refused c = c.make_ready.ensures.list_len_unchanged ∙ c.tracks.invariant.same
 
 pub returns-in-Refused : goal.returns-in-Refused
-returns-in-Refused c =
-    let as_long : length (c.make_ready.new.list) ≡ length c.args.list.now = c.make_ready.ensures.list_len_unchanged ∙ c.tracks.invariant.same in
-    record { result_value = all_meet c.args.s.now c.args.b _ _ c.tracks-test.true c.tracks.invariant.before (refused _ _ _ _ _ c.make_ready.ensures.readies _ c.in-Refused.is); list_len_unchanged = as_long }
+returns-in-Refused c = record { result_value = all_meet c.args.s.now c.args.b _ _ c.tracks-test.true c.tracks.invariant.before (refused _ _ _ _ _ c.make_ready.ensures.readies _ c.in-Refused.is); list_len_unchanged = c.make_ready.ensures.list_len_unchanged ∙ c.tracks.invariant.same }
 
 pub shape_of-list-in-Refused-record_key : goal.shape_of-list-in-Refused-record_key
-shape_of-list-in-Refused-record_key c =
-    let as_long : length (c.make_ready.new.list) ≡ length c.args.list.now = c.make_ready.ensures.list_len_unchanged ∙ c.tracks.invariant.same in
-    as_long
+shape_of-list-in-Refused-record_key c = c.make_ready.ensures.list_len_unchanged ∙ c.tracks.invariant.same
 
 pub returns-in-Refused-record_key : goal.returns-in-Refused-record_key
 returns-in-Refused-record_key c =
-    let as_long : length (c.make_ready.new.list) ≡ length c.args.list.now = c.make_ready.ensures.list_len_unchanged ∙ c.tracks.invariant.same in
-    let ready : Ready-track c.args.s.now c.args.b c.args.slots.now c.tracks.track (c.make_ready.new.list) (c.in-Keys.n) c.in-Keys.again = record {
-      ordered = c.requires.ordered;
-      is-track = c.tracks-test.true;
-      room = omega (arith, as_long);
-      keys = keyed _ _ _ _ _ c.make_ready.ensures.readies _ _ c.in-Keys.is;
-    } in
-    let known = ready in
-    record { result_value = all_meet c.args.s.now c.args.b _ _ known.is-track c.tracks.invariant.before (record-refused known c.loop-i-test.true _ c.loop-i.invariant c.record_key.ensures c.in-Refused-record_key.is); list_len_unchanged = as_long }
+    let known = ready-track _ _ c.requires.ordered c.tracks-test.true c.requires.count_in_bounds (c.make_ready.ensures.list_len_unchanged ∙ c.tracks.invariant.same) c.make_ready.ensures.readies c.in-Keys.is in
+    record { result_value = all_meet c.args.s.now c.args.b _ _ known.is-track c.tracks.invariant.before (record-refused known c.loop-i-test.true _ c.loop-i.invariant c.record_key.ensures c.in-Refused-record_key.is); list_len_unchanged = c.make_ready.ensures.list_len_unchanged ∙ c.tracks.invariant.same }

@@ -9,18 +9,10 @@ use Rattle.writing.proofs.Measuring.{track-fits}
 use Rattle.writing.proofs.track.track_length.Goals as goal
 
 pub overflow_add-result : goal.overflow_add-result
-overflow_add-result c =
-    let long : length (strip_track c.args.s.now c.args.b c.args.track) ≡ 2 + length (initial_bytes c.args.s.now c.args.b c.args.track) + length (records_bytes c.args.s.now c.args.b (chain_at c.args.s.now c.args.b c.args.track)) = track-long c.args.s.now c.args.b c.args.track in
-    let fits : length (strip_track c.args.s.now c.args.b c.args.track) ≤ 4000000 = track-fits c.requires.ordered c.requires.all_end c.args.track c.requires.track_lt_count in
-    omega (arith, long, fits)
+overflow_add-result c = omega (arith, track-long c.args.s.now c.args.b c.args.track, track-fits c.requires.ordered c.requires.all_end c.args.track c.requires.track_lt_count)
 
 pub overflow_add-result-2 : goal.overflow_add-result-2
-overflow_add-result-2 c =
-    let long : length (strip_track c.args.s.now c.args.b c.args.track) ≡ 2 + length (initial_bytes c.args.s.now c.args.b c.args.track) + length (records_bytes c.args.s.now c.args.b (chain_at c.args.s.now c.args.b c.args.track)) = track-long c.args.s.now c.args.b c.args.track in
-    let fits : length (strip_track c.args.s.now c.args.b c.args.track) ≤ 4000000 = track-fits c.requires.ordered c.requires.all_end c.args.track c.requires.track_lt_count in
-    omega (arith, long, fits)
+overflow_add-result-2 c = omega (arith, track-long c.args.s.now c.args.b c.args.track, track-fits c.requires.ordered c.requires.all_end c.args.track c.requires.track_lt_count)
 
 pub returns : goal.returns
-returns c =
-    let long : length (strip_track c.args.s.now c.args.b c.args.track) ≡ 2 + length (initial_bytes c.args.s.now c.args.b c.args.track) + length (records_bytes c.args.s.now c.args.b (chain_at c.args.s.now c.args.b c.args.track)) = track-long c.args.s.now c.args.b c.args.track in
-    omega (arith, long)
+returns c = omega (arith, track-long c.args.s.now c.args.b c.args.track)

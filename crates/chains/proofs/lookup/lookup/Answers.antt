@@ -6,9 +6,6 @@ use Rattle.chains.specs.Block.{links}
 use Rattle.chains.proofs.ByIndex.{slots-below}
 use Rattle.chains.proofs.lookup.lookup.Goals as goal
 
-pub offset_bounds-slots-guess : goal.offset_bounds-slots-guess
-offset_bounds-slots-guess c = omega (arith, c.if-guess-slots.true)
-
 pub bounds-slots-guess : goal.bounds-slots-guess
 bounds-slots-guess c = c.if-guess-slots.true
 

@@ -15,17 +15,8 @@ index_at-index-requires c = record { fits = c.requires; p_lt_count = c.loop-p-te
 pub returns-then-index-ge2147483648 : goal.returns-then-index-ge2147483648
 returns-then-index-ge2147483648 c = out_of_range c.loop-p.invariant (λ more. inl (subst (λ (k : ℕ). 2147483648 ≤ k) c.index_at-index.ensures c.if-index-ge2147483648.true))
 
-pub overflow_cast-index : goal.overflow_cast-index
-overflow_cast-index c = omega (arith, c.if-index-ge2147483648.false)
-
 pub returns-then-index-b : goal.returns-then-index-b
 returns-then-index-b c = out_of_range c.loop-p.invariant (λ more. inr (subst (λ (k : ℕ). k < c.args.b.initials.count) c.index_at-index.ensures c.if-index-b.true))
-
-pub overflow_add-p : goal.overflow_add-p
-overflow_add-p c = omega (arith, c.loop-p-test.true, c.requires.few_records)
-
-pub loop-p-smaller : goal.loop-p-smaller
-loop-p-smaller c = omega (arith, c.loop-p-test.true)
 
 pub loop-p-preserved : goal.loop-p-preserved
 loop-p-preserved c = ranging-more c.loop-p.invariant c.loop-p-test.true c.index_at-index.result c.index_at-index.ensures c.if-index-ge2147483648.false c.if-index-b.false

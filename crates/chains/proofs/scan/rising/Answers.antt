@@ -11,20 +11,8 @@ loop-p-init c = rising_none _ _
 pub index_at-index-requires : goal.index_at-index-requires
 index_at-index-requires c = record { fits = c.requires; p_lt_count = c.loop-p-test.true }
 
-pub overflow_cast-index : goal.overflow_cast-index
-overflow_cast-index c = omega (arith, c.index_at-index.type_inv)
-
 pub returns-then-index-least : goal.returns-then-index-least
 returns-then-index-least c = λ e. absurd (let z : ◌≡◌ {A = ℕ} 0 1 = cc in omega arith)
-
-pub overflow_add-least : goal.overflow_add-least
-overflow_add-least c = omega (arith, c.index_at-index.type_inv)
-
-pub overflow_add-p : goal.overflow_add-p
-overflow_add-p c = omega (arith, c.loop-p-test.true, c.requires.few_records)
-
-pub loop-p-smaller : goal.loop-p-smaller
-loop-p-smaller c = omega (arith, c.loop-p-test.true)
 
 pub loop-p-preserved : goal.loop-p-preserved
 loop-p-preserved c = rising-more _ _ _ _ _ c.loop-p.invariant c.loop-p-test.true c.index_at-index.ensures c.if-index-least.false

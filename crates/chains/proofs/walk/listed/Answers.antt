@@ -12,9 +12,6 @@ pub loop-i-init : goal.loop-i-init
 unfolding member
 loop-i-init c = (omega arith, refl)
 
-pub bounds-list-i : goal.bounds-list-i
-bounds-list-i c = omega (arith, c.requires, c.loop-i-test.true)
-
 pub returns-then-list-i : goal.returns-then-list-i
 returns-then-list-i c = listed-is _ _ _ _ c.loop-i-test.true c.requires c.if-list-i.true
 

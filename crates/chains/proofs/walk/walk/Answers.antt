@@ -7,9 +7,6 @@ use Rattle.chains.proofs.walk.walk.Goals as goal
 pub first_link-link-requires : goal.first_link-link-requires
 first_link-link-requires c = record { fits = c.requires.ordered.fits; track_lt_count = c.requires.track_lt_count }
 
-pub overflow_cast-expected : goal.overflow_cast-expected
-overflow_cast-expected c = omega (arith, c.requires.ordered.fits.few_tracks, c.requires.track_lt_count)
-
 pub loop-link-init : goal.loop-link-init
 loop-link-init c = begins c.args.s.now c.args.b c.args.slots.now c.requires.ordered c.args.track c.requires.track_lt_count c.args.list.now c.requires.count_in_bounds c.first_link-link.result c.first_link-link.ensures
 
@@ -24,9 +21,6 @@ returns-in-Absent c = record { result_after = misses c.args.s.now c.args.b c.arg
 
 pub previous_at-previous-requires : goal.previous_at-previous-requires
 previous_at-previous-requires c = record { fits = c.requires.ordered.fits; p_lt_count = found_below c.args.s.now c.args.b c.args.slots.now c.requires.ordered c.args.track c.requires.track_lt_count c.args.list.now c.requires.count_in_bounds c.loop-link.list c.loop-link.link c.loop-link.expected c.loop-link.n c.loop-link.invariant c.lookup.result c.in-At.p c.lookup.ensures c.in-At.is }
-
-pub listed-requires : goal.listed-requires
-listed-requires c = omega (arith, c.loop-link.invariant.many, c.loop-link.invariant.same, c.requires.count_in_bounds)
 
 pub shape_of-list-then-listed : goal.shape_of-list-then-listed
 shape_of-list-then-listed c = c.loop-link.invariant.same
@@ -45,16 +39,10 @@ overflow_cast-list c =
     let below = found_below c.args.s.now c.args.b c.args.slots.now c.requires.ordered c.args.track c.requires.track_lt_count c.args.list.now c.requires.count_in_bounds c.loop-link.list c.loop-link.link c.loop-link.expected c.loop-link.n c.loop-link.invariant c.lookup.result c.in-At.p c.lookup.ensures c.in-At.is in
     omega (arith, below, c.requires.ordered.fits.few_records)
 
-pub offset_bounds-list-n : goal.offset_bounds-list-n
-offset_bounds-list-n c = omega (arith, c.loop-link.invariant.many, c.requires.ordered.fits.few_records)
-
 pub bounds-list-n : goal.bounds-list-n
 bounds-list-n c =
     let less = more_room c.args.s.now c.args.b c.args.slots.now c.requires.ordered c.args.track c.requires.track_lt_count c.args.list.now c.requires.count_in_bounds c.loop-link.list c.loop-link.link c.loop-link.expected c.loop-link.n c.loop-link.invariant c.loop-link-test.true c.lookup.result c.in-At.p c.lookup.ensures c.in-At.is c.previous_at-previous.result c.previous_at-previous.ensures c.if-previous-expected.false in
     omega (arith, less, c.loop-link.invariant.same, c.requires.count_in_bounds)
-
-pub overflow_add-n : goal.overflow_add-n
-overflow_add-n c = omega (arith, c.loop-link.invariant.many, c.requires.ordered.fits.few_records)
 
 pub next_at-link-requires : goal.next_at-link-requires
 next_at-link-requires c = record { fits = c.requires.ordered.fits; p_lt_count = found_below c.args.s.now c.args.b c.args.slots.now c.requires.ordered c.args.track c.requires.track_lt_count c.args.list.now c.requires.count_in_bounds c.loop-link.list c.loop-link.link c.loop-link.expected c.loop-link.n c.loop-link.invariant c.lookup.result c.in-At.p c.lookup.ensures c.in-At.is }

@@ -15,9 +15,6 @@ use Rattle.marks.proofs.counts.count.Goals.{then-marks-p-eq0+then-unlinked, then
 pub loop-p-init : goal.loop-p-init
 loop-p-init c = starts
 
-pub offset_bounds-marks-p : goal.offset_bounds-marks-p
-offset_bounds-marks-p c = omega arith
-
 pub bounds-marks-p : goal.bounds-marks-p
 bounds-marks-p c =
     let long = ap length c.requires.marks_value ∙ length-each _ _ in
@@ -35,9 +32,6 @@ pub overflow_add-disconnected : goal.overflow_add-disconnected
 overflow_add-disconnected c =
     let so_far = below c.loop-p.invariant in
     omega arith
-
-pub overflow_add-p : goal.overflow_add-p
-overflow_add-p c = omega arith
 
 pub loop-p-preserved : goal.loop-p-preserved
 loop-p-preserved c =

@@ -11,12 +11,6 @@ use Prim.Native.Nat.{◌<◌}
 use Rattle.marks.proofs.Passing.{ending, found, found-inside}
 use Rattle.marks.proofs.mark.mark_chain.Goals as goal
 
-pub overflow_add-mark : goal.overflow_add-mark
-overflow_add-mark c = omega arith
-
-pub overflow_cast-mark : goal.overflow_cast-mark
-overflow_cast-mark c = omega arith
-
 pub first_link-link-requires : goal.first_link-link-requires
 first_link-link-requires c = record { fits = c.requires.ordered.fits; track_lt_count = c.requires.track_lt_count }
 
@@ -54,4 +48,4 @@ pub shape_of-marks : goal.shape_of-marks
 shape_of-marks c = c.loop-link.invariant.same
 
 pub returns : goal.returns
-returns c = record { marks_after = (ends (ending c.requires.ordered c.requires.track_lt_count (c.requires.all_end _ c.requires.track_lt_count)) c.loop-link.invariant c.loop-link-test.false).0; value = (ends (ending c.requires.ordered c.requires.track_lt_count (c.requires.all_end _ c.requires.track_lt_count)) c.loop-link.invariant c.loop-link-test.false).1 }
+returns c = let both = ends (ending c.requires.ordered c.requires.track_lt_count (c.requires.all_end _ c.requires.track_lt_count)) c.loop-link.invariant c.loop-link-test.false in record { marks_after = both.0; value = both.1 }

@@ -18,9 +18,6 @@ overflow_add-reached c =
     let more = few-links c.loop-track.invariant (ending c.requires.ordered c.loop-track-test.true (c.requires.all_end _ c.loop-track-test.true)) c.requires.ordered.fits.few_records c.mark_chain-reached.ensures.value in
     omega arith
 
-pub overflow_add-track : goal.overflow_add-track
-overflow_add-track c = omega arith
-
 pub loop-track-preserved : goal.loop-track-preserved
 loop-track-preserved c =
     one-track c.loop-track.invariant (ending c.requires.ordered c.loop-track-test.true (c.requires.all_end _ c.loop-track-test.true)) c.requires.ordered.fits.few_records c.mark_chain-reached.ensures.value c.mark_chain-reached.ensures.marks_after
@@ -29,4 +26,4 @@ pub shape_of-marks : goal.shape_of-marks
 shape_of-marks c = as_many c.loop-track.invariant ∙ sym (ap length c.requires.marks_value ∙ length-replicate c.args.b.records.count 0)
 
 pub returns : goal.returns
-returns c = record { marks_after = (all-tracks c.loop-track.invariant c.loop-track-test.false).0; value = (all-tracks c.loop-track.invariant c.loop-track-test.false).1 }
+returns c = let both = all-tracks c.loop-track.invariant c.loop-track-test.false in record { marks_after = both.0; value = both.1 }

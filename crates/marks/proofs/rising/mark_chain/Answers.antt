@@ -20,20 +20,11 @@ initial_key-requires c = record { fits = c.requires.ordered.fits; track_lt_count
 pub returns-in-Refused : goal.returns-in-Refused
 returns-in-Refused c = record { chain_marked = tt; marks_len_unchanged = refl }
 
-pub overflow_add-mark : goal.overflow_add-mark
-overflow_add-mark c = omega (arith, c.requires.ordered.fits.few_tracks, c.requires.track_lt_count)
-
-pub overflow_cast-mark : goal.overflow_cast-mark
-overflow_cast-mark c = omega (arith, c.requires.ordered.fits.few_tracks, c.requires.track_lt_count)
-
 pub first_frame-frame-requires : goal.first_frame-frame-requires
 first_frame-frame-requires c = record { fits = c.requires.ordered.fits; track_lt_count = c.requires.track_lt_count }
 
 pub first_link-link-requires : goal.first_link-link-requires
 first_link-link-requires c = record { fits = c.requires.ordered.fits; track_lt_count = c.requires.track_lt_count }
-
-pub overflow_cast-expected : goal.overflow_cast-expected
-overflow_cast-expected c = omega (arith, c.requires.ordered.fits.few_tracks, c.requires.track_lt_count)
 
 pub loop-link-init : goal.loop-link-init
 loop-link-init c = rising.begins _ _ _ _ c.requires.ordered c.requires.track_lt_count _ _ _ c.first_link-link.ensures c.first_frame-frame.ensures

@@ -38,12 +38,6 @@ overflow_add-reached c =
     let more = few-links c.loop-track.invariant.0 (ending c.requires.ordered c.loop-track-test.true one.ends) c.requires.ordered.fits.few_records one.length in
     omega (arith, more, c.loop-track.invariant.0.most, c.loop-track.invariant.0.within, c.requires.ordered.fits.few_tracks)
 
-pub overflow_add-track : goal.overflow_add-track
-overflow_add-track c = omega (arith, c.requires.ordered.fits.few_tracks, c.loop-track-test.true)
-
-pub loop-track-smaller : goal.loop-track-smaller
-loop-track-smaller c = omega (arith, c.loop-track-test.true)
-
 pub loop-track-preserved : goal.loop-track-preserved
 loop-track-preserved c =
     let one : OneMarked c.args.s.now c.args.b c.loop-track.track c.loop-track.marks c.mark_chain.new.marks (c.in-Links.n) = told _ _ _ _ _ _ _ c.mark_chain.ensures.chain_marked c.in-Links.is in

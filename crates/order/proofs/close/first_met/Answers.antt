@@ -7,9 +7,6 @@ use Rattle.order.proofs.close.first_met.Goals as goal
 pub loop-p-init : goal.loop-p-init
 loop-p-init c = flags-start _ _ _ c.clear.ensures
 
-pub overflow_mul-n : goal.overflow_mul-n
-overflow_mul-n c = omega (arith, c.requires.within.small, c.requires.slots_len_bound)
-
 pub place-requires : goal.place-requires
 place-requires c = record { p_lt_count = omega (arith, c.requires.slots_len_bound, c.loop-p-test.true); within = c.requires.within }
 
@@ -27,12 +24,6 @@ shape_of-slots-then-raise c = c.raise.ensures.length ∙ c.loop-p.invariant.long
 
 pub returns-then-raise : goal.returns-then-raise
 returns-then-raise c = record { first_met = flags-met _ _ _ c.loop-p.invariant c.loop-p-test.true (c.place.ensures _ c.in-At.is) c.raise.ensures c.if-raise.true; slots_len_unchanged = c.raise.ensures.length ∙ c.loop-p.invariant.long }
-
-pub overflow_add-p : goal.overflow_add-p
-overflow_add-p c = omega (arith, c.loop-p-test.true)
-
-pub loop-p-smaller : goal.loop-p-smaller
-loop-p-smaller c = omega (arith, c.loop-p-test.true)
 
 pub loop-p-preserved : goal.loop-p-preserved
 loop-p-preserved c = flags-more _ _ _ c.loop-p.invariant c.loop-p-test.true (c.place.ensures _ c.in-At.is) c.raise.ensures c.if-raise.false

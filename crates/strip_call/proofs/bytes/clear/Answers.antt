@@ -7,19 +7,10 @@ use Rattle.strip_call.proofs.bytes.clear.Goals as goal
 pub loop-i-init : goal.loop-i-init
 loop-i-init c = record { most = omega arith; is = refl }
 
-pub offset_bounds-slots-i : goal.offset_bounds-slots-i
-offset_bounds-slots-i c = omega (arith, c.loop-i-test.true, c.requires)
-
 pub bounds-slots-i : goal.bounds-slots-i
 bounds-slots-i c =
     let same = clearing-length c.args.n c.args.slots.now c.loop-i.slots c.loop-i.i c.loop-i.invariant c.requires in
     omega (arith, c.loop-i-test.true, c.requires, same)
-
-pub overflow_add-i : goal.overflow_add-i
-overflow_add-i c = omega (arith, c.loop-i-test.true, c.requires)
-
-pub loop-i-smaller : goal.loop-i-smaller
-loop-i-smaller c = omega (arith, c.loop-i-test.true)
 
 pub loop-i-preserved : goal.loop-i-preserved
 loop-i-preserved c = clearing-more c.args.n c.args.slots.now c.loop-i.slots c.loop-i.i c.loop-i.invariant c.requires c.loop-i-test.true

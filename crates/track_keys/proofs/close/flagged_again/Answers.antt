@@ -32,10 +32,7 @@ pub frame_at-frame-requires : goal.frame_at-frame-requires
 frame_at-frame-requires c = record { fits = c.requires.ends.ordered.fits; p_lt_count = follow-below c.requires.ends c.requires.list_len c.loop-i.invariant.followed c.loop-i-test.true _ c.lookup.ensures c.in-At.is }
 
 pub meet-requires-in-At : goal.meet-requires-in-At
-meet-requires-in-At c = record { least_le_frame = (record-spanned c.requires.ends c.requires.list_len c.requires.spans c.loop-i.invariant c.loop-i-test.true _ c.lookup.ensures c.in-At.is c.frame_at-frame.ensures c.requires.enough_flags).0; frame_le_greatest = (record-spanned c.requires.ends c.requires.list_len c.requires.spans c.loop-i.invariant c.loop-i-test.true _ c.lookup.ensures c.in-At.is c.frame_at-frame.ensures c.requires.enough_flags).1.0; enough_flags = (record-spanned c.requires.ends c.requires.list_len c.requires.spans c.loop-i.invariant c.loop-i-test.true _ c.lookup.ensures c.in-At.is c.frame_at-frame.ensures c.requires.enough_flags).1.1 }
-
-pub overflow_add-result : goal.overflow_add-result
-overflow_add-result c = omega (arith, c.loop-i-test.true)
+meet-requires-in-At c = let spanned = record-spanned c.requires.ends c.requires.list_len c.requires.spans c.loop-i.invariant c.loop-i-test.true _ c.lookup.ensures c.in-At.is c.frame_at-frame.ensures c.requires.enough_flags in record { least_le_frame = spanned.0; frame_le_greatest = spanned.1.0; enough_flags = spanned.1.1 }
 
 pub shape_of-list-then-meet : goal.shape_of-list-then-meet
 shape_of-list-then-meet c = c.meet-in-At.ensures.length ∙ c.loop-i.invariant.long
@@ -45,9 +42,6 @@ returns-then-meet c = flags-met c.requires.ends c.requires.list_len c.requires.s
 
 pub next_at-link-requires : goal.next_at-link-requires
 next_at-link-requires c = record { fits = c.requires.ends.ordered.fits; p_lt_count = follow-below c.requires.ends c.requires.list_len c.loop-i.invariant.followed c.loop-i-test.true _ c.lookup.ensures c.in-At.is }
-
-pub overflow_add-i : goal.overflow_add-i
-overflow_add-i c = omega (arith, c.loop-i-test.true)
 
 pub loop-i-preserved : goal.loop-i-preserved
 loop-i-preserved c = flags-more c.requires.ends c.requires.list_len c.requires.spans c.loop-i.invariant c.loop-i-test.true _ c.lookup.ensures c.in-At.is c.frame_at-frame.ensures c.meet-in-At.ensures c.if-meet.false c.next_at-link.ensures

@@ -35,9 +35,6 @@ returns-in-Absent c = follow-absent c.requires.ends (ap length c.requires.list_v
 pub frame_at-frame-requires : goal.frame_at-frame-requires
 frame_at-frame-requires c = record { fits = c.requires.ends.ordered.fits; p_lt_count = follow-below c.requires.ends (ap length c.requires.list_value) c.loop-i.invariant.followed c.loop-i-test.true _ c.lookup.ensures c.in-At.is }
 
-pub overflow_add-result-then-frame-first : goal.overflow_add-result-then-frame-first
-overflow_add-result-then-frame-first c = omega (arith, c.loop-i-test.true)
-
 pub shape_of-list-then-frame-first : goal.shape_of-list-then-frame-first
 shape_of-list-then-frame-first c = again-long c.requires.ends c.requires.list_value c.repeats.ensures.sorted c.loop-i.invariant
 
@@ -47,9 +44,6 @@ returns-then-frame-first c = again-first c.requires.ends c.requires.list_value c
 pub meet-requires : goal.meet-requires
 meet-requires c = record { within = frame-field _ _ c.requires.ends.ordered.fits; all_below = c.loop-i.invariant.met.below; numbers_rise = again-rise c.requires.ends c.requires.list_value c.repeats.ensures.sorted c.loop-i.invariant }
 
-pub overflow_add-result-then-meet : goal.overflow_add-result-then-meet
-overflow_add-result-then-meet c = omega (arith, c.loop-i-test.true)
-
 pub shape_of-list-then-meet : goal.shape_of-list-then-meet
 shape_of-list-then-meet c = c.meet.ensures.length ∙ again-long c.requires.ends c.requires.list_value c.repeats.ensures.sorted c.loop-i.invariant
 
@@ -58,9 +52,6 @@ returns-then-meet c = again-met c.requires.ends c.requires.list_value c.repeats.
 
 pub next_at-link-requires : goal.next_at-link-requires
 next_at-link-requires c = record { fits = c.requires.ends.ordered.fits; p_lt_count = follow-below c.requires.ends (ap length c.requires.list_value) c.loop-i.invariant.followed c.loop-i-test.true _ c.lookup.ensures c.in-At.is }
-
-pub overflow_add-i : goal.overflow_add-i
-overflow_add-i c = omega (arith, c.loop-i-test.true)
 
 pub loop-i-preserved : goal.loop-i-preserved
 loop-i-preserved c = again-more c.requires.ends c.requires.list_value c.repeats.ensures.sorted c.loop-i.invariant c.loop-i-test.true _ c.lookup.ensures c.in-At.is c.frame_at-frame.ensures c.first_frame-first.ensures c.meet.ensures c.if-frame-first.false c.if-meet.false c.next_at-link.ensures

@@ -44,9 +44,6 @@ overflow_add-i-in-loop-i c = omega (arith, few-keys (ready-track _ _ c.requires.
 pub loop-i-preserved : goal.loop-i-preserved
 loop-i-preserved c = asking-more (ready-track _ _ c.requires.ordered c.tracks-test.true c.requires.count_in_bounds (c.make_ready.ensures.list_len_unchanged ∙ c.tracks.invariant.same) c.make_ready.ensures.readies c.in-Keys.is) c.loop-i-test.true _ c.loop-i.invariant c.record_key.ensures c.in-Nothing.is
 
-pub overflow_add-track : goal.overflow_add-track
-overflow_add-track c = omega arith
-
 pub tracks-preserved : goal.tracks-preserved
 tracks-preserved c = tracking-more (ready-track _ _ c.requires.ordered c.tracks-test.true c.requires.count_in_bounds (c.make_ready.ensures.list_len_unchanged ∙ c.tracks.invariant.same) c.make_ready.ensures.readies c.in-Keys.is) c.loop-i-test.false c.loop-i.invariant c.tracks.invariant (c.make_ready.ensures.list_len_unchanged ∙ c.tracks.invariant.same)
 

@@ -15,9 +15,6 @@ overflow_add-bytes c =
     let one = track-fits c.requires.ordered c.requires.all_end c.loop-track.track c.loop-track-test.true in
     omega (arith, c.loop-track.invariant.sum, front, one, c.track_length-bytes.ensures)
 
-pub overflow_add-track : goal.overflow_add-track
-overflow_add-track c = omega arith
-
 pub loop-track-preserved : goal.loop-track-preserved
 loop-track-preserved c = counted-more c.loop-track.invariant c.loop-track-test.true c.track_length-bytes.ensures
 

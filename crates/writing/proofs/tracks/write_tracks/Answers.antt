@@ -9,9 +9,6 @@ loop-track-init c = tracks-none c.requires.room
 pub write_track-here-requires : goal.write_track-here-requires
 write_track-here-requires c = record { ordered = c.requires.ordered; all_end = c.requires.all_end; track_lt_count = c.loop-track-test.true; room = tracks-room c.requires.room c.loop-track.invariant c.loop-track-test.true }
 
-pub overflow_add-track : goal.overflow_add-track
-overflow_add-track c = omega arith
-
 pub loop-track-preserved : goal.loop-track-preserved
 loop-track-preserved c = tracks-more c.requires.room c.loop-track.invariant c.loop-track-test.true c.write_track-here.ensures
 

@@ -1,6 +1,5 @@
 -- `lookup` meets its contract. Assumes nothing.
 use mathlib.Core.Path.{sym, ◌∙◌}
-use native.Mathlib.Omega.{arith}
 use Rattle.clip.proofs.Indexed.{of-record}
 use Rattle.chains.specs.Block.{links}
 use Rattle.chains.proofs.ByIndex.{slots-below}

@@ -1,5 +1,4 @@
 -- `raise` meets its contract: the bit's weight is added to a place where the bit is 0. Assumes nothing.
-use Prim.Native.Nat.{◌/◌}
 use native.Mathlib.Omega.{arith}
 use borrow.Author.Rules.{rules}
 use Rattle.flags.proofs.Raising.{raised-before, sum_fits, raised-now}

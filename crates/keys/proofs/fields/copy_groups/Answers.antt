@@ -1,9 +1,5 @@
 -- `copy_groups` meets its contract: the second group is written behind the first. Assumes nothing.
 use Rattle.keys.proofs.Placing.{room-front, room_back, wrote_then}
-use Rattle.clip.specs.Section.{bytes_at}
-use mathlib.Core.List.{[]}
-use mathlib.Core.Bool.{cond}
-use Prim.Native.Nat.{◌+◌, ◌*◌}
 use native.Mathlib.Omega.{arith}
 use Rattle.keys.proofs.fields.copy_groups.Goals as goal
 

@@ -1,9 +1,5 @@
 -- `write_curves` meets its contract: the rotation curve is written behind the others. Assumes nothing.
 use Rattle.keys.proofs.Placing.{room-front, room_back, wrote_then}
-use Rattle.keys.specs.Placed.{three_curves}
-use lib.ListN.{get_or}
-use mathlib.Core.List.{[]}
-use mathlib.Core.Bool.{cond}
 use Rattle.keys.proofs.fields.write_curves.Goals as goal
 
 pub three_unless-next-requires : goal.three_unless-next-requires

@@ -1,7 +1,5 @@
 -- `write_three` meets its contract: the curves are written one behind the other. Assumes nothing.
 use Rattle.keys.proofs.Placing.{room-first, room-second, room-third, wrote-three}
-use lib.ListN.{get_or}
-use mathlib.Core.List.{[]}
 use Rattle.keys.proofs.fields.write_three.Goals as goal
 
 pub write_curve-second-requires : goal.write_curve-second-requires

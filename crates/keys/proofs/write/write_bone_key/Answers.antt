@@ -1,11 +1,7 @@
 -- `write_bone_key` meets its contract: the key is its head, its pose and its curves, one behind the other. Assumes nothing.
 use Rattle.keys.proofs.Lengths.{bone-parts, bone-room}
 use Rattle.keys.proofs.Placing.{room-first, room-second, room-third, wrote-three}
-use Rattle.keys.specs.Placed.{Room, head_bytes, pose_bytes, curve_bytes, bone_key_bytes}
-use mathlib.Core.Path.{◌≡◌, refl}
-use mathlib.Core.List.{◌++◌, map}
-use Rattle.records.specs.Curves.{curves_at}
-use Rattle.strip.specs.Plain.{clamped}
+use mathlib.Core.Path.{refl}
 use Rattle.keys.proofs.write.write_bone_key.Goals as goal
 
 pub write_head-pose-requires : goal.write_head-pose-requires

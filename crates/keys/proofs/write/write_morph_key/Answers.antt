@@ -1,11 +1,6 @@
 -- `write_morph_key` meets its contract: the key is its head and its weight. Assumes nothing.
 use Rattle.keys.proofs.Lengths.{morph-parts, morph-room}
 use Rattle.keys.proofs.Placing.{room-front, room_back, wrote_then}
-use Rattle.keys.specs.Placed.{Room, head_bytes, morph_key_bytes}
-use Rattle.clip.specs.Section.{bytes_at}
-use mathlib.Core.Path.{◌≡◌}
-use mathlib.Core.List.{[], ◌++◌}
-use mathlib.Core.Bool.{cond}
 use Rattle.keys.proofs.write.write_morph_key.Goals as goal
 
 pub write_head-weight-requires : goal.write_head-weight-requires

@@ -1,13 +1,8 @@
 -- `mark_chain` meets its contract. Assumes nothing.
 use Rattle.marks.proofs.Following.{begins, never-absent, room, goes_on, ends}
 use Rattle.chains.specs.Lookup.{found_read}
-use Rattle.chains.specs.Block.{kind_of, links}
-use Rattle.clip.proofs.Indexed.{record_of-found}
-use Rattle.clip.specs.Scan.{record_of}
-use mathlib.Core.Option.{some}
-use mathlib.Core.Path.{◌≡◌, sym, ap, ◌∙◌}
+use mathlib.Core.Path.{sym, ap, ◌∙◌}
 use native.Mathlib.Omega.{arith}
-use Prim.Native.Nat.{◌<◌}
 use Rattle.marks.proofs.Passing.{ending, found, found-inside}
 use Rattle.marks.proofs.mark.mark_chain.Goals as goal
 

@@ -1,7 +1,5 @@
 -- `mark_tracks` meets its contract. Assumes nothing.
 use Rattle.marks.proofs.Passing.{ending, no-track, as_many, all-tracks, few-links, one-track}
-use Rattle.marks.proofs.Following.{Ending}
-use Rattle.chains.specs.Block.{kind_of, links}
 use lib.ListN.{length, length-replicate}
 use mathlib.Core.Path.{sym, ap, ◌∙◌}
 use native.Mathlib.Omega.{arith}

@@ -1,15 +1,9 @@
 -- `mark_chain` meets its contract. Assumes nothing.
 use Rattle.marks.proofs.RisingChains as rising
 use Rattle.marks.proofs.RisingChains.{Seeing}
-use Rattle.marks.specs.Rising.{Behind}
-use Rattle.chains.specs.Block.{kind_of, links}
+use Rattle.chains.specs.Block.{kind_of}
 use Rattle.chains.specs.Fault.{met_read}
-use Rattle.chains.specs.Lookup.{found_read}
-use Rattle.clip.specs.Scan.{record_of}
-use lib.ListN.{length}
-use mathlib.Core.Option.{some}
-use mathlib.Core.Path.{◌≡◌, refl, sym, ap, ◌∙◌}
-use Prim.Native.Nat.{◌<◌}
+use mathlib.Core.Path.{refl, sym, ap, ◌∙◌}
 use native.Mathlib.Omega.{arith}
 use Rattle.marks.proofs.Passing.{found, found-inside}
 use Rattle.marks.proofs.rising.mark_chain.Goals as goal

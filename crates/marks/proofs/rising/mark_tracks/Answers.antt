@@ -1,10 +1,8 @@
 -- `mark_tracks` meets its contract. Assumes nothing.
 use Rattle.marks.proofs.RisingChains.{told}
 use Rattle.marks.proofs.Passing.{ending, no-track, as_many, all-tracks, few-links, one-track}
-use Rattle.marks.proofs.Following.{Ending}
 use Rattle.marks.specs.Rising.{OneMarked}
 use Rattle.track_keys.proofs.Meets.{track-more}
-use Rattle.chains.specs.Block.{kind_of, links}
 use Rattle.track_keys.specs.Tracks.{tracks_meet}
 use Rattle.clip.specs.First.{first}
 use Rattle.chains.specs.declared.block.Block.{Block}

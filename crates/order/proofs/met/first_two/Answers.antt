@@ -1,5 +1,4 @@
 -- `first_two` meets its contract: a number has one first place. Assumes nothing.
-use Prim.Native.Nat.{◌+◌}
 use native.Mathlib.Omega.{arith}
 use mathlib.Core.Path.{sym, ◌∙◌}
 use Rattle.order.proofs.FirstPlaces.{too_few, only_one, two-found}

@@ -1,5 +1,4 @@
 -- `equals_before` meets its contract. Assumes nothing.
-use Prim.Native.Nat.{◌-◌}
 use native.Mathlib.Omega.{arith}
 use Rattle.order.proofs.repeats.equals_before.Goals as goal
 

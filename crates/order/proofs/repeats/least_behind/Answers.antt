@@ -1,5 +1,4 @@
 -- `least_behind` meets its contract: the answer so far is right for the places passed. Assumes nothing.
-use native.Mathlib.Omega.{arith}
 use Rattle.order.proofs.Neighbours.{behind-told, not_behind, pass-start, pass-over, pass-take, pass-done}
 use Rattle.order.proofs.repeats.least_behind.Goals as goal
 use Rattle.order.proofs.repeats.least_behind.Goals.{then-equals_before+then-here-least, then-equals_before+else-here-least, else-equals_before}

@@ -1,5 +1,4 @@
 -- `find_between` meets its contract: the number, if it is there, stands from `low` on and before `high`. Assumes nothing.
-use Prim.Native.Nat.{◌+◌, ◌-◌, ◌/◌}
 use native.Mathlib.Omega.{arith}
 use Rattle.order.proofs.Between.{bracket-start, bracket-up, bracket-down, bracket-found, bracket-absent}
 use Rattle.order.proofs.search.find_between.Goals as goal

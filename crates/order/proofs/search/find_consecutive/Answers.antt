@@ -1,5 +1,4 @@
 -- `find_consecutive` meets its contract. Assumes nothing.
-use Prim.Native.Nat.{◌-◌}
 use native.Mathlib.Omega.{arith}
 use Rattle.order.proofs.search.find_consecutive.Goals as goal
 

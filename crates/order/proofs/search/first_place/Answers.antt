@@ -1,5 +1,4 @@
 -- `first_place` meets its contract: numbers before `low` are below the given one, and those from `high` on are not. Assumes nothing.
-use Prim.Native.Nat.{◌+◌, ◌-◌, ◌/◌}
 use native.Mathlib.Omega.{arith}
 use Rattle.order.proofs.Halving.{bounds-start, bounds-up, bounds-down, bounds-done}
 use Rattle.order.proofs.search.first_place.Goals as goal

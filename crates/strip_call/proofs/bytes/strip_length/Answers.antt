@@ -1,7 +1,5 @@
 -- `strip_length` meets its contract. Assumes nothing.
 use Rattle.strip_call.proofs.Pieces.{bones-in, morphs-in, measured}
-use Prim.Native.Nat.{◌+◌, ◌≤◌}
-use lib.ListN.{length}
 use native.Mathlib.Omega.{arith}
 use Rattle.strip_call.proofs.bytes.strip_length.Goals as goal
 

@@ -1,7 +1,5 @@
 -- `write_strip` meets its contract. Assumes nothing.
 use Rattle.strip_call.proofs.Pieces.{bones-in, morphs-in, measured, second_fits, bones-fit, morphs-fit, all-written, wrote-length}
-use Rattle.strip_call.specs.Bytes.{strip_bytes}
-use Rattle.keys.specs.Placed.{Wrote}
 use native.Mathlib.Omega.{arith}
 use Rattle.strip_call.proofs.bytes.write_strip.Goals as goal
 

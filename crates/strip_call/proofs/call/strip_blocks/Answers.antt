@@ -1,10 +1,7 @@
 -- `strip_blocks` meets its contract. Assumes nothing.
 use borrow.Author.Tests.{leb-true, leb-false}
 use mathlib.Core.Path.{sym, ◌∙◌}
-use Prim.Native.Nat.{◌≤◌}
 use native.Mathlib.Omega.{arith}
-use lib.ListN.{length}
-use Rattle.strip_call.specs.Bytes.{strip_bytes}
 use Rattle.strip_call.proofs.Ended.{ran, bones-refused, morphs-refused, readable, output-short, written-says}
 use Rattle.strip_call.proofs.call.strip_blocks.Goals as goal
 

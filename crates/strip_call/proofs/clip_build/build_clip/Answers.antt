@@ -1,9 +1,6 @@
 -- `build_clip` meets its contract. Assumes nothing.
 use Rattle.strip_call.proofs.Clipped.{as-told, front-passed, few-reached, few-loose}
 use Rattle.strip_call.proofs.PartLaws.{outside-first, outside-both}
-use Rattle.strip_call.specs.Parts.{part, Outside}
-use Rattle.strip_call.specs.Building.{Passed}
-use Prim.Native.Nat.{◌+◌, ◌≤◌}
 use mathlib.Core.Path.{refl}
 use native.Mathlib.Omega.{arith}
 use Rattle.strip_call.proofs.clip_build.build_clip.Goals as goal

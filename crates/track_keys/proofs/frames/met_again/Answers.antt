@@ -1,5 +1,4 @@
 -- `met_again` meets its contract: the frames of the keys passed are different, and marked in the list. Assumes nothing.
-use native.Mathlib.Omega.{arith}
 use mathlib.Core.Path.{◌∙◌, ap}
 use lib.ListN.{length}
 use mathlib.Core.Bool.{not}

@@ -2,9 +2,7 @@
 use Rattle.track_keys.proofs.Asking.{ready-track, few-keys, keys-inside, refused, asking, position-below, record-refused, asking-more, tracking-more, tracked-all}
 use Rattle.track_keys.proofs.Meets.{all_meet}
 use Rattle.clip.specs.First.{first}
-use lib.ListN.{length}
-use mathlib.Core.Path.{◌≡◌, refl, ◌∙◌}
-use Prim.Native.Nat.{◌≤◌}
+use mathlib.Core.Path.{refl, ◌∙◌}
 use native.Mathlib.Omega.{arith}
 use Rattle.track_keys.proofs.tracks.all_tracks.Goals as goal
 

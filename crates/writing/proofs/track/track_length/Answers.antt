@@ -1,9 +1,5 @@
 -- `track_length` meets its contract. Assumes nothing.
 use native.Mathlib.Omega.{arith}
-use Prim.Native.Nat.{◌+◌, ◌≤◌}
-use mathlib.Core.Path.{◌≡◌}
-use lib.ListN.{length}
-use Rattle.writing.specs.Tracks.{chain_at, initial_bytes, records_bytes, strip_track}
 use Rattle.writing.proofs.Sums.{track-long}
 use Rattle.writing.proofs.Measuring.{track-fits}
 use Rattle.writing.proofs.track.track_length.Goals as goal

@@ -13,7 +13,7 @@ use crate::slots::Slots;
 impl<'a> Rising<'a> {
     // The place of the first of the slots with a number, if there are more.
     fn first_two(&self, number: u32) -> Option<usize>
-        ensures { FirstTwo (number_at self.now.slots.numbers.now.section.now self.now.slots.numbers.now.field self.now.slots.positions.now) (length self.now.slots.positions.now) number result }
+        ensures { FirstTwo (number_at self.now.slots.numbers.section.now self.now.slots.numbers.field self.now.slots.positions.now) (length self.now.slots.positions.now) number result }
     {
         let first = self.first_place(number);
         if 1 < self.slots.positions.len() - first {
@@ -31,7 +31,10 @@ pub fn meet(numbers: &Numbers, slots: &mut [u16], number: u32) -> bool
     requires numbers_rise { NumbersRise numbers.now.section.now numbers.now.field slots.old }
     ensures { Meets numbers.now.section.now numbers.now.field number slots.old slots.new result }
 {
-    let read = Slots { numbers: &*numbers, positions: slots };
+    let read = Slots {
+        numbers: *numbers,
+        positions: slots,
+    };
     let rising = Rising { slots: read };
     let Some(i) = rising.first_two(number) else {
         return false;

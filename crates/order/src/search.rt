@@ -9,7 +9,7 @@ use crate::slots::Slots;
 impl<'a> Slots<'a> {
     // In files that MMD writes the numbers are consecutive: a number stands as far behind the first slot as it is above the first slot's number.
     fn find_consecutive(&self, number: u32) -> Option<usize>
-        ensures { Stands self.now.numbers.now.section.now self.now.numbers.now.field self.now.positions.now number result }
+        ensures { Stands self.now.numbers.section.now self.now.numbers.field self.now.positions.now number result }
     {
         if self.positions.is_empty() {
             return None;
@@ -28,14 +28,14 @@ impl<'a> Slots<'a> {
 #[derive(Clone, Copy)]
 pub struct Rising<'a> {
     pub slots: Slots<'a>,
-    pub ghost numbers_rise: { NumbersRise slots.numbers.now.section.now slots.numbers.now.field slots.positions.now },
+    pub ghost numbers_rise: { NumbersRise slots.numbers.section.now slots.numbers.field slots.positions.now },
 }
 
 impl<'a> Rising<'a> {
     // How many slots have a number below the given one, which is the first place of that number, if it is there.
     // The slice's own searches need a closure that takes any u16, and here only positions of records have a number.
     pub(crate) fn first_place(&self, number: u32) -> usize
-        ensures { Bounds (number_at self.now.slots.numbers.now.section.now self.now.slots.numbers.now.field self.now.slots.positions.now) (length self.now.slots.positions.now) number result result }
+        ensures { Bounds (number_at self.now.slots.numbers.section.now self.now.slots.numbers.field self.now.slots.positions.now) (length self.now.slots.positions.now) number result result }
     {
         let mut low = 0;
         let mut high = self.slots.positions.len();
@@ -52,7 +52,7 @@ impl<'a> Rising<'a> {
     }
 
     fn find_between(&self, number: u32) -> Option<usize>
-        ensures { Finds self.now.slots.numbers.now.section.now self.now.slots.numbers.now.field self.now.slots.positions.now number result }
+        ensures { Finds self.now.slots.numbers.section.now self.now.slots.numbers.field self.now.slots.positions.now number result }
     {
         let first = self.first_place(number);
         if first < self.slots.positions.len() {
@@ -64,7 +64,7 @@ impl<'a> Rising<'a> {
     }
 
     pub fn find(&self, number: u32) -> Option<usize>
-        ensures { Finds self.now.slots.numbers.now.section.now self.now.slots.numbers.now.field self.now.slots.positions.now number result }
+        ensures { Finds self.now.slots.numbers.section.now self.now.slots.numbers.field self.now.slots.positions.now number result }
     {
         match self.slots.find_consecutive(number) {
             Some(i) => Some(i),

@@ -5,7 +5,7 @@ use Rattle.order.specs.Met.{Bounds}
 use Rattle.order.proofs.search.Rising.first_place.Given as goal
 
 abbrev pub invariant-loop-low : goal.invariant-loop-low
-invariant-loop-low l = Bounds (number_at l.self.slots.numbers.now.section.now l.self.slots.numbers.now.field l.self.slots.positions.now) (length l.self.slots.positions.now) l.number l.low l.high
+invariant-loop-low l = Bounds (number_at l.self.slots.numbers.section.now l.self.slots.numbers.field l.self.slots.positions.now) (length l.self.slots.positions.now) l.number l.low l.high
 
 abbrev pub decreases-loop-low : goal.decreases-loop-low
 decreases-loop-low l = l.high - l.low

@@ -1,17 +1,14 @@
 pub mod AnyRepeat
-pub mod Between
 pub mod Building
 pub mod CloseNumbers
 pub mod Counted
 pub mod Equals
 pub mod FirstOfAll
 pub mod FirstPlaces
-pub mod FirstTold
 pub mod Halving
 pub mod Heaps
 pub mod InOrder
 pub mod Laws
-pub mod Marking
 pub mod Meeting
 pub mod Neighbours
 pub mod Risen

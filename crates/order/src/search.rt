@@ -6,7 +6,7 @@ ghost use Rattle.order.specs.Repeat.{number_at};
 
 use crate::slots::Slots;
 
-impl<'a> Slots<'a> {
+impl Slots<'_, '_> {
     // In files that MMD writes the numbers are consecutive: a number stands as far behind the first slot as it is above the first slot's number.
     fn find_consecutive(&self, number: u32) -> Option<usize>
         ensures { Stands self.now.numbers.section.now self.now.numbers.field self.now.positions.now number result }
@@ -26,12 +26,12 @@ impl<'a> Slots<'a> {
 
 // Slots whose numbers do not fall.
 #[derive(Clone, Copy)]
-pub struct Rising<'a> {
-    pub slots: Slots<'a>,
+pub struct Rising<'s, 'p> {
+    pub slots: Slots<'s, 'p>,
     pub ghost numbers_rise: { NumbersRise slots.numbers.section.now slots.numbers.field slots.positions.now },
 }
 
-impl<'a> Rising<'a> {
+impl Rising<'_, '_> {
     // How many slots have a number below the given one, which is the first place of that number, if it is there.
     // The slice's own searches need a closure that takes any u16, and here only positions of records have a number.
     pub(crate) fn first_place(&self, number: u32) -> usize

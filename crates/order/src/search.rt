@@ -11,13 +11,15 @@ impl Slots<'_, '_> {
     fn find_consecutive(&self, number: u32) -> Option<usize>
         ensures { Stands self.now.numbers.section.now self.now.numbers.field self.now.positions.now number result }
     {
-        if self.positions.is_empty() {
-            return None;
-        }
-        let i = number.checked_sub(self.number_at(0))? as usize;
-        if i < self.positions.len() {
-            if self.number_at(i) == number {
-                return Some(i);
+        if 0 < self.positions.len() {
+            let least = self.number_at(0);
+            if least <= number {
+                let i = (number - least) as usize;
+                if i < self.positions.len() {
+                    if self.number_at(i) == number {
+                        return Some(i);
+                    }
+                }
             }
         }
         None

@@ -40,15 +40,14 @@ impl Rising<'_, '_> {
         ensures { Bounds (number_at self.now.slots.numbers.section.now self.now.slots.numbers.field self.now.slots.positions.now) (length self.now.slots.positions.now) number result result }
     {
         let mut low = 0;
-        let mut high = self.slots.positions.len();
-        while low < high {
-            let middle = low + (high - low) / 2;
-            let here = self.slots.number_at(middle);
+        let mut left = self.slots.positions.len();
+        while 0 < left {
+            let half = left - left / 2;
+            let here = self.slots.number_at(low + half - 1);
             if here < number {
-                low = middle + 1;
-            } else {
-                high = middle;
+                low = low + half;
             }
+            left = left - half;
         }
         low
     }

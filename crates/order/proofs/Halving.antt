@@ -5,26 +5,28 @@ use mathlib.Core.Path.{◌≡◌, sym, subst}
 use Rattle.order.specs.Met.{Bounds}
 use Rattle.order.proofs.Times.{equal_or_not}
 
--- Numbers rise, and the one at m was compared: what is left to search begins behind it, or ends no earlier.
-module _ (v : ℕ → ℕ) (n number low high m : ℕ) (b : Bounds v n number low high) (rise : (i j : ℕ) → i < j → j < n → v i ≤ v j) (from : low ≤ m) (to : m < high) (low' high' : ℕ) where
-  pub bounds-up : v m < number → low' ≡ m + 1 → high' ≡ high → Bounds v n number low' high'
-  bounds-up less behind same = record {
-    ordered = omega arith;
-    within = omega (arith, b.within);
-    under = λ i lt.
-        equal_or_not i m
-        (λ e. subst (λ k. v k < number) (sym e) less)
-        (λ other. let below = rise i m (omega (arith, other)) (omega (arith, b.within)) in omega (arith, below));
-    rest = λ i past lt. b.rest i (omega arith) lt;
-  }
+module _ (v : ℕ → ℕ) (n number : ℕ) where
+  module _ (low high : ℕ) (b : Bounds v n number low high) where
+    -- The number at m, here, was compared.
+    module _ (rise : (i j : ℕ) → i < j → j < n → v i ≤ v j) (m here : ℕ) (from : low ≤ m) (to : m < high) (is : here ≡ v m) where
+      pub bounds-up : here < number → Bounds v n number (m + 1) high
+      bounds-up less = record {
+        ordered = omega arith;
+        within = b.within;
+        under = λ i lt.
+            equal_or_not i m
+            (λ same. subst (λ k. v k < number) (sym same) (omega arith))
+            (λ other. let below = rise i m (omega (arith, other)) (omega arith) in omega (arith, below));
+        rest = b.rest;
+      }
 
-  pub bounds-down : number ≤ v m → low' ≡ low → m ≤ high' → high' ≤ high → Bounds v n number low' high'
-  bounds-down least same past before = record {
-    ordered = omega arith;
-    within = omega (arith, b.within);
-    under = λ i lt. b.under i (omega arith);
-    rest = λ i behind lt.
-        equal_or_not i m
-        (λ e. subst (λ k. number ≤ v k) (sym e) least)
-        (λ other. let above = rise m i (omega (arith, other)) lt in omega (arith, above));
-  }
+      pub bounds-down : number ≤ here → Bounds v n number low m
+      bounds-down least = record {
+        ordered = from;
+        within = omega arith;
+        under = b.under;
+        rest = λ i past lt.
+            equal_or_not i m
+            (λ same. subst (λ k. number ≤ v k) (sym same) (omega arith))
+            (λ behind. let above = rise m i (omega (arith, behind)) lt in omega (arith, above));
+      }

@@ -1,4 +1,5 @@
 pub mod AnyRepeat
+pub mod Between
 pub mod Building
 pub mod CloseNumbers
 pub mod Counted

@@ -7,7 +7,6 @@ use mathlib.Core.Option.{none, some}
 use mathlib.Core.Path.{◌≡◌, refl, sym, ap, ◌∙◌, subst}
 use lib.ListN.{length, get_or, drop, drop_of_length-le, length-append}
 use lib.Seq.{drop-cons}
-use Rattle.std.proofs.Common.{Option, Some, None}
 use Rattle.order.specs.Field.{AllBelow}
 use Rattle.order.proofs.Times.{equal_or_not}
 use Rattle.clip.specs.Fields.{Records}
@@ -17,10 +16,8 @@ use Rattle.clip.proofs.Counting.{distinct-length}
 use Rattle.clip.proofs.Chained.{Chained, all-below, no-repeats}
 use Rattle.clip.proofs.Follow.{is-chain}
 use Rattle.chains.specs.Block.{kind_of, links}
-use Rattle.chains.specs.Lookup.{found_read}
 use Rattle.chains.specs.Chain.{chain_at, link_to, Ends, Along}
 use Rattle.chains.specs.declared.block.Block.{Block}
-use Rattle.chains.specs.declared.standing.Standing.{Standing}
 
 module _ {B : Type 0} (r : Records B) where
   -- What the link to a record of a chain is.
@@ -85,29 +82,29 @@ module _ {s : List ℕ} {b : Block} {slots : List ℕ} {track : ℕ} (x : Ends s
       let short = distinct-length b.records.count (chain_at s b track) once (all-below (links s b) (chain_at s b track) track ((links s b).initial track).next (chained x)) in
       omega (arith, short, along-inside on, x.ordered.fits.few_records)
 
-  module _ (on : link ≡ 0 → ⊥) (f : Option Standing) (contract : found_read f ≡ record_of (links s b) link) where
+  module _ (on : link ≡ 0 → ⊥) where
     bears : record_of (links s b) link ≡ some (get_or (chain_at s b track) i 0)
     bears = let at = led-here (along-inside on) in of-record (links s b) x.ordered.indexed link (get_or (chain_at s b track) i 0) at.below at.index
 
-    pub along-absent : {P : Type 0} → f ≡ None → P
-    along-absent seen =
-        let out : none ≡ some (get_or (chain_at s b track) i 0) = sym (ap found_read seen) ∙ contract ∙ bears in
+    pub along-absent : {P : Type 0} → none ≡ record_of (links s b) link → P
+    along-absent absent =
+        let out : none ≡ some (get_or (chain_at s b track) i 0) = absent ∙ bears in
         absurd (let z : ◌≡◌ {A = ℕ} 0 1 = cc in omega arith)
 
-    module _ {at : Standing} (seen : f ≡ Some at) where
-      pub along_at : at.position ≡ get_or (chain_at s b track) i 0
+    module _ {p : ℕ} (is : some p ≡ record_of (links s b) link) where
+      pub along_at : p ≡ get_or (chain_at s b track) i 0
       along_at =
-          let same : some at.position ≡ some (get_or (chain_at s b track) i 0) = sym (ap found_read seen) ∙ contract ∙ bears in
+          let same : some p ≡ some (get_or (chain_at s b track) i 0) = is ∙ bears in
           cc
 
-      pub along_below : at.position < b.records.count
-      along_below = subst (λ (p : ℕ). p < b.records.count) (sym along_at) (led-here (along-inside on)).below
+      pub along_below : p < b.records.count
+      along_below = subst (λ (q : ℕ). q < b.records.count) (sym along_at) (led-here (along-inside on)).below
 
-      pub along-more : {next : ℕ} → next ≡ ((links s b).at at.position).next → Along s b track (i + 1) next
+      pub along-more : {next : ℕ} → next ≡ ((links s b).at p).next → Along s b track (i + 1) next
       along-more to = record {
         most = omega (arith, along-inside on);
-        linked = to ∙ ap (λ p. ((links s b).at p).next) along_at ∙ ap (link_to (links s b) ((links s b).initial track).next (chain_at s b track)) (sym (add-one i));
+        linked = to ∙ ap (λ q. ((links s b).at q).next) along_at ∙ ap (link_to (links s b) ((links s b).initial track).next (chain_at s b track)) (sym (add-one i));
       }
 
-      pub along-first : drop i (chain_at s b track) ≡ at.position ∷ drop (i + 1) (chain_at s b track)
+      pub along-first : drop i (chain_at s b track) ≡ p ∷ drop (i + 1) (chain_at s b track)
       along-first = rw (add-one, along_at) (drop-cons (chain_at s b track) i 0 (along-inside on))

@@ -4,9 +4,8 @@ use native.Mathlib.Numerals.{add-one}
 use native.Mathlib.Omega.{arith}
 use mathlib.Core.Bool.{Bool, true, false}
 use mathlib.Core.List.{List, [], ◌∷◌, ◌++◌}
-use mathlib.Core.Option.{some}
+use mathlib.Core.Option.{none, some}
 use mathlib.Core.Path.{◌≡◌, refl, sym, ap, ◌∙◌}
-use Rattle.std.proofs.Common.{Option, Some, None}
 use borrow.Author.Tests.{eqb-true, eqb-false, eq-eqb, ne_eqb}
 use Rattle.std.specs.List.{list_any}
 use lib.Dec.{eqb}
@@ -23,10 +22,9 @@ use Rattle.clip.proofs.Chained.{Linked}
 use Rattle.clip.proofs.Walked.{one_more, few, walk_ends, walk-misses, walk-cycles, walk-wrong}
 use Rattle.chains.specs.Block.{kind_of, links}
 use Rattle.chains.specs.Fault.{fault_of}
-use Rattle.chains.specs.Lookup.{Ordered, found_read}
+use Rattle.chains.specs.Lookup.{Ordered}
 use Rattle.chains.specs.declared.block.Block.{Block}
 use Rattle.chains.specs.declared.fault.Fault.{Fault}
-use Rattle.chains.specs.declared.standing.Standing.{Standing}
 
 pub record Going (s : List ℕ) (b : Block) (track : ℕ) (list₀ list : List ℕ) (link expected n : ℕ) : Type 0 where
   pub many : n ≤ b.records.count
@@ -40,48 +38,45 @@ module _ {s : List ℕ} {b : Block} {slots : List ℕ} (ordered : Ordered s b sl
   pub ends : link ≡ 0 → answered (take n list) ≡ chain (kind_of b.kind) (links s b) track
   ends zero_link = sym (walk_ends (kind_of b.kind) (links s b) ordered.indexed track is-track (take n list) expected link g.linked zero_link)
 
-  module _ (on : link ≡ 0 → ⊥) (f : Option Standing) (contract : found_read f ≡ record_of (links s b) link) where
-    pub misses : f ≡ None → declined (fault_of (kind_of b.kind) b.initials.count (Fault.Missing track link)) ≡ chain (kind_of b.kind) (links s b) track
-    misses seen = sym (walk-misses (kind_of b.kind) (links s b) ordered.indexed track is-track (take n list) expected link g.linked on (sym contract ∙ ap found_read seen))
+  module _ (on : link ≡ 0 → ⊥) where
+    pub misses : none ≡ record_of (links s b) link → declined (fault_of (kind_of b.kind) b.initials.count (Fault.Missing track link)) ≡ chain (kind_of b.kind) (links s b) track
+    misses absent = sym (walk-misses (kind_of b.kind) (links s b) ordered.indexed track is-track (take n list) expected link g.linked on (sym absent))
 
-    module _ {at : Standing} (seen : f ≡ Some at) where
-      found : record_of (links s b) link ≡ some at.position
-      found = sym contract ∙ ap found_read seen
+    module _ {p : ℕ} (bears : some p ≡ record_of (links s b) link) where
+      pub found_below : p < b.records.count
+      found_below = (record_of-found (links s b) link p (sym bears)).0
 
-      pub found_below : at.position < b.records.count
-      found_below = (record_of-found (links s b) link at.position found).0
+      module _ {previous : ℕ} (is : previous ≡ ((links s b).at p).previous) where
+        pub cycles : true ≡ member p (take n list) → declined (fault_of (kind_of b.kind) b.initials.count (Fault.Cycle track link)) ≡ chain (kind_of b.kind) (links s b) track
+        cycles inside = sym (walk-cycles (kind_of b.kind) (links s b) ordered.indexed track is-track (take n list) expected link g.linked on p (sym bears) (sym inside))
 
-      module _ {previous : ℕ} (is : previous ≡ ((links s b).at at.position).previous) where
-        pub cycles : true ≡ member at.position (take n list) → declined (fault_of (kind_of b.kind) b.initials.count (Fault.Cycle track link)) ≡ chain (kind_of b.kind) (links s b) track
-        cycles inside = sym (walk-cycles (kind_of b.kind) (links s b) ordered.indexed track is-track (take n list) expected link g.linked on at.position found (sym inside))
-
-        pub wrong : false ≡ member at.position (take n list) → (previous ≡ expected → ⊥) → declined (fault_of (kind_of b.kind) b.initials.count (Fault.Wrong track link previous expected)) ≡ chain (kind_of b.kind) (links s b) track
+        pub wrong : false ≡ member p (take n list) → (previous ≡ expected → ⊥) → declined (fault_of (kind_of b.kind) b.initials.count (Fault.Wrong track link previous expected)) ≡ chain (kind_of b.kind) (links s b) track
         wrong new other =
             ap (λ (k : ℕ). declined (refusal_of (kind_of b.kind) 8 (pos track ∷ signed link ∷ signed k ∷ signed expected ∷ []))) is
-            ∙ sym (walk-wrong (kind_of b.kind) (links s b) ordered.indexed track is-track (take n list) expected link g.linked on at.position found (sym new) (λ e. other (is ∙ e)))
+            ∙ sym (walk-wrong (kind_of b.kind) (links s b) ordered.indexed track is-track (take n list) expected link g.linked on p (sym bears) (sym new) (λ e. other (is ∙ e)))
 
         -- A record more, in a list with room for all.
         module _ (room : b.records.count ≤ length list₀) (same : previous ≡ expected) where
-          extended : Linked (links s b) track ((links s b).initial track).next (take n list ++ at.position ∷ []) link ((links s b).at at.position).next
+          extended : Linked (links s b) track ((links s b).initial track).next (take n list ++ p ∷ []) link ((links s b).at p).next
           extended =
-              let bears = record_of-found (links s b) link at.position found in
-              one_more (links s b) (take n list) track ((links s b).initial track).next expected link at.position g.linked on bears.0 bears.1 (sym is ∙ same)
+              let found = record_of-found (links s b) link p (sym bears) in
+              one_more (links s b) (take n list) track ((links s b).initial track).next expected link p g.linked on found.0 found.1 (sym is ∙ same)
 
           pub more_room : n < b.records.count
           more_room =
-              let most = few (links s b) ordered.indexed track is-track ((links s b).initial track).next (take n list ++ at.position ∷ []) link ((links s b).at at.position).next extended in
-              let sum = length-append (take n list) (at.position ∷ []) in
+              let most = few (links s b) ordered.indexed track is-track ((links s b).initial track).next (take n list ++ p ∷ []) link ((links s b).at p).next extended in
+              let sum = length-append (take n list) (p ∷ []) in
               let many = length-take-le n list (omega (arith, g.many, g.same)) in
               omega (arith, most, sum, many)
 
-          pub goes_on : {next : ℕ} → next ≡ ((links s b).at at.position).next → Going s b track list₀ (set list n at.position) next link (n + 1)
+          pub goes_on : {next : ℕ} → next ≡ ((links s b).at p).next → Going s b track list₀ (set list n p) next link (n + 1)
           goes_on to =
               let less = more_room in
               let inside : n < length list = omega (arith, less, g.same) in
               record {
                 many = omega (arith, less);
-                same = length-set list n at.position ∙ g.same;
-                linked = rw (add-one, take-suc-set list n at.position inside, to) extended;
+                same = length-set list n p ∙ g.same;
+                linked = rw (add-one, take-suc-set list n p inside, to) extended;
               }
 
 eqb-sym : (p q : ℕ) → eqb q p ≡ eqb p q

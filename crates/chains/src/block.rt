@@ -25,7 +25,7 @@ pub struct Block {
 pub struct Records<'a> {
     pub section: &'a [u8],
     pub block: Block,
-    ghost fits: { Fits section.now block },
+    pub ghost fits: { Fits section.now block },
 }
 
 // Where a record begins.

@@ -10,14 +10,14 @@ use crate::lookup::Indexed;
 pub struct Chain<'a> {
     pub indexed: Indexed<'a>,
     pub track: usize,
-    ghost ends: { Ends indexed.records.section.now indexed.records.block indexed.slots.now track },
+    pub ghost ends: { Ends indexed.records.section.now indexed.records.block indexed.slots.now track },
 }
 
 // The chains of all tracks.
 #[derive(Clone, Copy)]
 pub struct Chains<'a> {
     pub indexed: Indexed<'a>,
-    ghost all_end: { AllEnd indexed.records.section.now indexed.records.block },
+    pub ghost all_end: { AllEnd indexed.records.section.now indexed.records.block },
 }
 
 impl<'a> Chains<'a> {

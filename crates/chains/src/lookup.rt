@@ -7,33 +7,34 @@ ghost use Rattle.chains.specs.Lookup.{Ordered, found_read};
 use crate::block::Records;
 use crate::near::Near;
 use crate::standing::Standing;
-use order::answer::Find;
-use order::search;
+use order::field::Numbers;
+use order::search::Rising;
+use order::slots::Slots;
 
 // The records whose index scan has passed, and the first work slice, which holds their positions by rising index.
 #[derive(Clone, Copy)]
 pub struct Indexed<'a> {
     pub records: Records<'a>,
     pub slots: &'a [u16],
-    ghost ordered: { Ordered records.section.now records.block slots.now },
+    pub ghost ordered: { Ordered records.section.now records.block slots.now },
 }
 
 impl<'a> Indexed<'a> {
     fn by_index(&self, link: u32) -> Option<Standing>
         ensures { found_read result ≡ record_of (links self.now.records.section.now self.now.records.block) link }
     {
-        match search::find(
-            self.records.section,
-            self.records.block.records,
-            self.slots,
-            link,
-        ) {
-            Find::At(place) => Some(Standing {
-                position: self.slots[place] as usize,
-                place,
-            }),
-            Find::Absent => None,
-        }
+        let numbers = Numbers {
+            section: self.records.section,
+            field: self.records.block.records,
+        };
+        let slots = Slots {
+            numbers,
+            positions: self.slots,
+        };
+        let rising = Rising { slots };
+        let place = rising.find(link)?;
+        let position = self.slots[place] as usize;
+        Some(Standing { position, place })
     }
 
     // The guess first: if the record that stands there bears the link, no other one does.

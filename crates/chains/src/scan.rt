@@ -9,6 +9,7 @@ ghost use Rattle.chains.specs.Scan.{InRange, IndicesRise};
 
 use crate::block::Records;
 use crate::fault::Fault;
+use order::field::Numbers;
 use order::repeats;
 
 // Whether indices rise from the kind's count on, as they do in the files that MMD writes. The last one is the largest.
@@ -50,7 +51,11 @@ fn scan_any(records: &Records, slots: &mut [u16]) -> Result<(), Fault>
     ensures slots_len_unchanged { length slots.new ≡ length slots.old }
 {
     let passed = in_range(records);
-    let repeated = repeats::first_repeat(records.section, records.block.records, slots);
+    let indices = Numbers {
+        section: records.section,
+        field: records.block.records,
+    };
+    let repeated = repeats::first_repeat(&indices, slots);
     if repeated < passed {
         return Err(Fault::RepeatedIndex(records.index_at(repeated)));
     }

@@ -4,8 +4,8 @@ use Rattle.chains.proofs.ByIndex.{index-field}
 use Rattle.chains.proofs.Scanned.{repeated-in, scan-repeated, scan-negative, scan-low, scan-passes, scan-refuses, scan-orders}
 use Rattle.chains.proofs.scan.scan_any.Goals as goal
 
-pub first_repeat-repeated-requires : goal.first_repeat-repeated-requires
-first_repeat-repeated-requires c = record { within = index-field _ _ c.args.records.now.fits; slots_len_bound = omega (arith, c.requires) }
+pub invariant_of-indices : goal.invariant_of-indices
+invariant_of-indices c = record { within = index-field _ _ c.args.records.now.fits }
 
 pub returns-then-repeated-passed : goal.returns-then-repeated-passed
 returns-then-repeated-passed c =

@@ -9,16 +9,16 @@ returns-then-self-eq0-clause-steps c =
     (none, none)
 
 pub returns-in_err-at-clause-steps : goal.returns-in_err-at-clause-steps
-returns-in_err-at-clause-steps c = along-absent c.args.self.now.chain.ends c.args.self.now.along c.if-self-eq0.false _ c.lookup.ensures c.in_err-at.was
+returns-in_err-at-clause-steps c = along-absent c.args.self.now.chain.ends c.args.self.now.along c.if-self-eq0.false c.in_err-at.ensures
 
 pub next_at-self-requires : goal.next_at-self-requires
-next_at-self-requires c = along_below c.args.self.now.chain.ends c.args.self.now.along c.if-self-eq0.false _ c.lookup.ensures c.in_ok-at.was
+next_at-self-requires c = along_below c.args.self.now.chain.ends c.args.self.now.along c.if-self-eq0.false c.in_ok-at.ensures
 
 pub overflow_add-self : goal.overflow_add-self
 overflow_add-self c = let few = along-few c.args.self.now.chain.ends c.args.self.now.along c.if-self-eq0.false in omega (arith, few)
 
 pub invariant_of-self-2 : goal.invariant_of-self-2
-invariant_of-self-2 c = record { along = along-more c.args.self.now.chain.ends c.args.self.now.along c.if-self-eq0.false _ c.lookup.ensures c.in_ok-at.was c.next_at-self.ensures }
+invariant_of-self-2 c = record { along = along-more c.args.self.now.chain.ends c.args.self.now.along c.if-self-eq0.false c.in_ok-at.ensures c.next_at-self.ensures }
 
 pub returns-clause-steps : goal.returns-clause-steps
-returns-clause-steps c = along-first c.args.self.now.chain.ends c.args.self.now.along c.if-self-eq0.false _ c.lookup.ensures c.in_ok-at.was
+returns-clause-steps c = along-first c.args.self.now.chain.ends c.args.self.now.along c.if-self-eq0.false c.in_ok-at.ensures

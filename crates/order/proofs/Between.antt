@@ -5,10 +5,10 @@ use native.Mathlib.Omega.{arith}
 use mathlib.Core.List.{List}
 use mathlib.Core.Path.{◌≡◌, sym, ◌∙◌, subst}
 use lib.ListN.{length, get_or}
+use Rattle.std.specs.Prelude.{Some, None}
 use Rattle.order.specs.Field.{number_of}
 use Rattle.order.specs.Find.{NumbersRise, Finds}
 use Rattle.order.specs.declared.field.Field.{Field}
-use Rattle.order.specs.declared.answer.Find.{Find}
 use Rattle.order.proofs.Times.{equal_or_not}
 
 module _ (s : List ℕ) (f : Field) (xs : List ℕ) (number : ℕ) where
@@ -53,10 +53,10 @@ module _ (s : List ℕ) (f : Field) (xs : List ℕ) (number : ℕ) where
           (λ behind. let above = rise m i (omega (arith, behind)) lt in omega (arith, above, other));
     }
 
-    pub bracket-found : here ≡ number → Finds s f xs number (Find.At m)
+    pub bracket-found : here ≡ number → Finds s f xs number (Some m)
     bracket-found same = (omega arith, sym is ∙ same)
 
-  pub bracket-absent : (low high : ℕ) → Bracket low high → high ≤ low → Finds s f xs number Find.Absent
+  pub bracket-absent : (low high : ℕ) → Bracket low high → high ≤ low → Finds s f xs number None
   bracket-absent low high b closed i inside same = go (dec_lt i low)
     where
       go : Dec (i < low) → ⊥

@@ -4,12 +4,12 @@ use native.Mathlib.Omega.{arith}
 use mathlib.Core.List.{List}
 use mathlib.Core.Path.{◌≡◌, sym, ◌∙◌, subst}
 use lib.ListN.{length}
+use Rattle.std.specs.Prelude.{Option, Some}
 use Rattle.order.specs.Field.{number_of}
 use Rattle.order.specs.Sorted.{Sorted}
 use Rattle.order.specs.Repeat.{FirstRepeat, up_to}
 use Rattle.order.specs.Consecutive.{InOrder}
 use Rattle.order.specs.Close.{FirstMet, Repeated}
-use Rattle.order.specs.declared.answer.Find.{Find}
 use Rattle.order.specs.declared.field.Field.{Field}
 use Rattle.order.proofs.Counted.{up_to-length}
 
@@ -22,7 +22,7 @@ module _ (s : List ℕ) (f : Field) (n : ℕ) {slots : List ℕ} where
   }
 
   module _ {many : ℕ} (long : many ≡ n) where
-    pub told-met : (r : Find) → FirstMet (number_of s f) many r → {p : ℕ} → r ≡ Find.At p → length slots ≡ many → Repeated s f n slots p
+    pub told-met : (r : Option ℕ) → FirstMet (number_of s f) many r → {p : ℕ} → r ≡ Some p → length slots ≡ many → Repeated s f n slots p
     told-met r met {p} at same =
         let told = subst (λ m. FirstMet (number_of s f) m r) long met p at in
         let inside = told.0 in

@@ -6,21 +6,21 @@ use mathlib.Core.List.{List}
 use mathlib.Core.Path.{◌≡◌, refl, sym, ap, subst, ◌∙◌}
 use lib.ListN.{length, get_or, set, length-set}
 use lib.Seq.{get_or-set_same, get_or-set_other}
+use Rattle.std.specs.Prelude.{Option, Some, None}
 use Rattle.order.specs.Field.{number_of, AllBelow}
 use Rattle.order.specs.Repeat.{number_at}
 use Rattle.order.specs.Met.{Twice, FirstTwo, Meets}
 use Rattle.order.specs.declared.field.Field.{Field}
-use Rattle.order.specs.declared.answer.Find.{Find}
 use Rattle.order.proofs.FirstPlaces.{same-two}
 use Rattle.order.proofs.Times.{equal_or_not}
 
-pub found-two : (v : ℕ → ℕ) (n number : ℕ) (r : Find) (i : ℕ) → FirstTwo v n number r → r ≡ Find.At i → Twice v n number i
+pub found-two : (v : ℕ → ℕ) (n number : ℕ) (r : Option ℕ) (i : ℕ) → FirstTwo v n number r → r ≡ Some i → Twice v n number i
 found-two v n number r i found is = subst (FirstTwo v n number) is found
 
 module _ (s : List ℕ) (f : Field) (number : ℕ) (xs : List ℕ) (below : AllBelow f.count xs) where
-  pub none-marked : (r : Find) → FirstTwo (number_at s f xs) (length xs) number r → r ≡ Find.Absent → Meets s f number xs xs false
+  pub none-marked : (r : Option ℕ) → FirstTwo (number_at s f xs) (length xs) number r → r ≡ None → Meets s f number xs xs false
   none-marked r found is =
-      let none : FirstTwo (number_at s f xs) (length xs) number Find.Absent = subst (FirstTwo (number_at s f xs) (length xs) number) is found in
+      let none : FirstTwo (number_at s f xs) (length xs) number None = subst (FirstTwo (number_at s f xs) (length xs) number) is found in
       record {
         length = refl;
         below = below;

@@ -1,9 +1,10 @@
 -- The pass over slots that stand right behind one with an equal number. Assumes nothing.
-use Prim.Native.Nat.{ℕ, ◌+◌, ◌-◌, ◌≤◌, ◌<◌}
+use Prim.Native.Nat.{ℕ, ◌+◌, ◌-◌, ◌≤◌, ◌<◌, min}
+use native.Mathlib.Decide.{dec_lt}
 use native.Mathlib.Omega.{arith}
 use mathlib.Core.Bool.{Bool, true, false}
 use mathlib.Core.List.{List}
-use mathlib.Core.Path.{◌≡◌, refl, sym, subst, ◌∙◌}
+use mathlib.Core.Path.{◌≡◌, sym, subst, ◌∙◌}
 use borrow.Author.Tests.{eqb-true, eqb-false}
 use lib.Dec.{eqb}
 use lib.ListN.{length, get_or}
@@ -49,16 +50,23 @@ module _ (s : List ℕ) (f : Field) (xs : List ℕ) where
       some = passed.some;
     }
 
-    pub pass-take : Behind s f xs i → get_or xs i 0 < m → Passed n (get_or xs i 0) (i + 1)
-    pass-take here less = record {
+    pub pass-least : Behind s f xs i → {least : ℕ} → least ≡ min m (get_or xs i 0) → Passed n least (i + 1)
+    pass-least here {least} is = record {
       started = omega arith;
       most = omega (arith, passed.most);
       least = λ j lt behind.
           equal_or_not j i
-          (λ same. subst (λ k. get_or xs i 0 ≤ get_or xs k 0) (sym same) (omega arith))
+          (λ same. subst (λ k. least ≤ get_or xs k 0) (sym same) (omega arith))
           (λ other. let before = passed.least j (omega (arith, other)) behind in omega (arith, before));
-      some = λ lt. (i, here, refl);
+      some = λ lt. go (dec_lt (get_or xs i 0) m) lt;
     }
+      where
+        go : Dec (get_or xs i 0 < m) → least < n → (j : ℕ) × Behind s f xs j × (get_or xs j 0 ≡ least)
+        go (yes less) lt = (i, here, omega arith)
+        go (no past) lt =
+            let same : m ≡ least = omega (arith, past) in
+            let before = passed.some (omega arith) in
+            (before.0, before.1, before.2 ∙ same)
 
     pub pass-done : length xs ≤ i → LeastBehind s f xs n m
     pass-done past = record {

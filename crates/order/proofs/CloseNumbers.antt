@@ -7,7 +7,7 @@ use mathlib.Core.Path.{◌≡◌, refl, ap, ◌∙◌, subst}
 use lib.ListN.{length, replicate, length-replicate}
 use Rattle.flags.specs.Flags.{Raised}
 use Rattle.flags.proofs.Meeting.{Met, none-met, met-new, met-before, met-more}
-use Rattle.std.specs.Prelude.{Some, None}
+use Rattle.std.specs.Prelude.{Some}
 use Rattle.order.specs.Repeat.{FirstRepeat, Repeats}
 use Rattle.order.specs.Consecutive.{PlaceOf}
 use Rattle.order.specs.Close.{FirstMet}
@@ -52,6 +52,3 @@ module _ (f : ℕ → ℕ) (least n : ℕ) where
           (λ last. met-new a.met refl counted down i (omega (arith, last)) (same ∙ ap f last))
           (λ other. a.apart i j lt (omega (arith, other)) same);
     }
-
-pub none_found : (f : ℕ → ℕ) (n : ℕ) → FirstMet f n None
-none_found f n p e = absurd (let z : ◌≡◌ {A = ℕ} 0 1 = cc in omega arith)

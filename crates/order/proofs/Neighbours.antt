@@ -9,7 +9,7 @@ use borrow.Author.Tests.{eqb-true, eqb-false}
 use lib.Dec.{eqb}
 use lib.ListN.{length, get_or}
 use Rattle.order.specs.Find.{NumbersRise}
-use Rattle.order.specs.Repeat.{number_at, Behind, LeastBehind}
+use Rattle.order.specs.Repeat.{number_at, Behind}
 use Rattle.order.specs.declared.field.Field.{Field}
 use Rattle.order.proofs.Times.{equal_or_not}
 
@@ -28,14 +28,6 @@ module _ (s : List ℕ) (f : Field) (xs : List ℕ) where
     pub most : m ≤ n
     pub least : (j : ℕ) → j < i → Behind s f xs j → m ≤ get_or xs j 0
     pub some : m < n → (j : ℕ) × Behind s f xs j × (get_or xs j 0 ≡ m)
-
-  pub pass-start : (n : ℕ) → Passed n n 1
-  pass-start n = record {
-    started = omega arith;
-    most = omega arith;
-    least = λ j lt behind. absurd (omega (arith, behind.later));
-    some = λ lt. absurd (omega arith);
-  }
 
   module _ (n m i : ℕ) (passed : Passed n m i) where
     -- The slot at i does not change the answer: its number is another, or it is no less.
@@ -67,13 +59,6 @@ module _ (s : List ℕ) (f : Field) (xs : List ℕ) where
             let same : m ≡ least = omega (arith, past) in
             let before = passed.some (omega arith) in
             (before.0, before.1, before.2 ∙ same)
-
-    pub pass-done : length xs ≤ i → LeastBehind s f xs n m
-    pass-done past = record {
-      most = passed.most;
-      least = λ j behind. passed.least j (omega (arith, behind.inside)) behind;
-      some = passed.some;
-    }
 
   -- Where numbers rise, the slot right before one with an equal number somewhere before it has that number too.
   pub behind-of : NumbersRise s f xs → (a b : ℕ) → a < b → b < length xs → number_at s f xs a ≡ number_at s f xs b → Behind s f xs b

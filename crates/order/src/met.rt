@@ -10,7 +10,7 @@ use crate::field::Numbers;
 use crate::search::Rising;
 use crate::slots::Slots;
 
-impl<'a> Rising<'a> {
+impl Rising<'_, '_> {
     // The place of the first of the slots with a number, if there are more.
     fn first_two(&self, number: u32) -> Option<usize>
         ensures { FirstTwo (number_at self.now.slots.numbers.section.now self.now.slots.numbers.field self.now.slots.positions.now) (length self.now.slots.positions.now) number result }

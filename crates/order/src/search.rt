@@ -6,18 +6,20 @@ ghost use Rattle.order.specs.Repeat.{number_at};
 
 use crate::slots::Slots;
 
-impl<'a> Slots<'a> {
+impl Slots<'_, '_> {
     // In files that MMD writes the numbers are consecutive: a number stands as far behind the first slot as it is above the first slot's number.
     fn find_consecutive(&self, number: u32) -> Option<usize>
         ensures { Stands self.now.numbers.section.now self.now.numbers.field self.now.positions.now number result }
     {
-        if self.positions.is_empty() {
-            return None;
-        }
-        let i = number.checked_sub(self.number_at(0))? as usize;
-        if i < self.positions.len() {
-            if self.number_at(i) == number {
-                return Some(i);
+        if 0 < self.positions.len() {
+            let least = self.number_at(0);
+            if least <= number {
+                let i = (number - least) as usize;
+                if i < self.positions.len() {
+                    if self.number_at(i) == number {
+                        return Some(i);
+                    }
+                }
             }
         }
         None
@@ -26,12 +28,12 @@ impl<'a> Slots<'a> {
 
 // Slots whose numbers do not fall.
 #[derive(Clone, Copy)]
-pub struct Rising<'a> {
-    pub slots: Slots<'a>,
+pub struct Rising<'s, 'p> {
+    pub slots: Slots<'s, 'p>,
     pub ghost numbers_rise: { NumbersRise slots.numbers.section.now slots.numbers.field slots.positions.now },
 }
 
-impl<'a> Rising<'a> {
+impl Rising<'_, '_> {
     // How many slots have a number below the given one, which is the first place of that number, if it is there.
     // The slice's own searches need a closure that takes any u16, and here only positions of records have a number.
     pub(crate) fn first_place(&self, number: u32) -> usize
@@ -41,8 +43,7 @@ impl<'a> Rising<'a> {
         let mut high = self.slots.positions.len();
         while low < high {
             let middle = low + (high - low) / 2;
-            let here = self.slots.number_at(middle);
-            if here < number {
+            if self.slots.number_at(middle) < number {
                 low = middle + 1;
             } else {
                 high = middle;
@@ -51,13 +52,22 @@ impl<'a> Rising<'a> {
         low
     }
 
+    // By halves too, and not by `first_place`: it ends where it meets the number, and was a seventh faster where most numbers stand.
     fn find_between(&self, number: u32) -> Option<usize>
         ensures { Finds self.now.slots.numbers.section.now self.now.slots.numbers.field self.now.slots.positions.now number result }
     {
-        let first = self.first_place(number);
-        if first < self.slots.positions.len() {
-            if self.slots.number_at(first) == number {
-                return Some(first);
+        let mut low = 0;
+        let mut high = self.slots.positions.len();
+        while low < high {
+            let middle = low + (high - low) / 2;
+            let here = self.slots.number_at(middle);
+            if here == number {
+                return Some(middle);
+            }
+            if here < number {
+                low = middle + 1;
+            } else {
+                high = middle;
             }
         }
         None
@@ -66,6 +76,7 @@ impl<'a> Rising<'a> {
     pub fn find(&self, number: u32) -> Option<usize>
         ensures { Finds self.now.slots.numbers.section.now self.now.slots.numbers.field self.now.slots.positions.now number result }
     {
+        // No `or_else`: its contract says nothing of what the closure answers.
         match self.slots.find_consecutive(number) {
             Some(i) => Some(i),
             None => self.find_between(number),

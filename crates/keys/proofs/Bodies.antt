@@ -35,34 +35,17 @@ get_or-bytes_at s at (suc n) i lt = go (ℕ_discrete i n) (λ less. get_or-bytes
         get_or-append (bytes_at s at n) (get_or s (at + n) 0 ∷ []) 0 i inside ∙ rest less
 
 -- A part of the section.
-first-bytes : (s : List ℕ) (at n : ℕ) → at + n ≤ length s → take n (drop at s) ≡ bytes_at s at n
+first_bytes : (s : List ℕ) (at n : ℕ) → at + n ≤ length s → take n (drop at s) ≡ bytes_at s at n
 unfolding bytes_at
-first-bytes s at zero fits = refl
-first-bytes s at (suc n) fits =
+first_bytes s at zero fits = refl
+first_bytes s at (suc n) fits =
     let long = length-drop at s in
-    take-suc (drop at s) n 0 (omega (arith, long)) ∙ rw (first-bytes s at n (omega arith), get_or-drop at s n 0)
+    take-suc (drop at s) n 0 (omega (arith, long)) ∙ rw (first_bytes s at n (omega arith), get_or-drop at s n 0)
 
-pub sliced : (s : List ℕ) (a b n : ℕ) → a + n ≡ b → b ≤ length s → take (b - a) (drop a s) ≡ bytes_at s a n
-sliced s a b n ends fits =
-    let many : b - a ≡ n = omega arith in
-    ap (λ (m : ℕ). take m (drop a s)) many ∙ first-bytes s a n (omega arith)
-
-module _ (s : List ℕ) (at : ℕ) where
-  pub length_interpolation : length (bone_body s at).interpolation ≡ 16
-  unfolding bone_body
-  length_interpolation = length-bytes_at s at 16
-
-  pub length_translation : length (bone_body s at).translation ≡ 12
-  unfolding bone_body
-  length_translation = length-bytes_at s (at + 16) 12
-
-  pub length_orientation : length (bone_body s at).orientation ≡ 16
-  unfolding bone_body
-  length_orientation = length-bytes_at s (at + 28) 16
-
-  pub length_weight : length (morph_body s at) ≡ 4
-  unfolding morph_body
-  length_weight = length-bytes_at s at 4
+pub sliced : (s : List ℕ) (at n : ℕ) → at + n ≤ length s → take (at + n - at) (drop at s) ≡ bytes_at s at n
+sliced s at n fits =
+    let many : at + n - at ≡ n = omega arith in
+    ap (λ (m : ℕ). take m (drop at s)) many ∙ first_bytes s at n fits
 
 -- Four bytes of a body, by their place in it and in the section.
 pub word_in : (s : List ℕ) (at n i : ℕ) → i + 4 ≤ n → u32_at (bytes_at s at n) i ≡ u32_at s (at + i)

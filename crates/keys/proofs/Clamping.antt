@@ -1,13 +1,13 @@
 -- Curves that clamping leaves as they are, and their bytes in the section. Assumes nothing.
-use Prim.Native.Nat.{ℕ}
+use Prim.Native.Nat.{ℕ, ◌+◌}
 use native.Mathlib.Nat.{add_assoc, add-zero}
 use native.Mathlib.Omega.{arith}
 use mathlib.Core.Bool.{Bool, true, false, ◌&&◌, cond}
 use mathlib.Core.List.{List, [], ◌++◌}
 use mathlib.Core.Path.{◌≡◌, refl, ap}
-use lib.ListN.{get_or, take, drop}
+use lib.ListN.{get_or}
 use Rattle.records.specs.Curves.{curves_at}
-use Rattle.clip.specs.Section.{bone_body, bytes_at}
+use Rattle.clip.specs.Section.{bytes_at}
 use Rattle.keys.specs.Placed.{Room, Wrote, three_curves, curve_bytes}
 use Rattle.keys.specs.declared.plain.BonePlain.{BonePlain}
 use Rattle.keys.proofs.Placing.{wrote_none, room-front, wrote_then, wrote-three}
@@ -18,8 +18,8 @@ both false q e = absurd (let z : ◌≡◌ {A = ℕ} 0 1 = cc in omega arith)
 
 module _ (s : List ℕ) (at : ℕ) where
   -- The bytes of the curves stand one behind the other.
-  pub curve-bytes : (p : BonePlain) → curve_bytes p (curves_at s at) ≡ cond p.curves [] (take 12 (bone_body s at).interpolation) ++ cond p.rotation [] (drop 12 (bone_body s at).interpolation)
-  unfolding bone_body bytes_at
+  pub curve-bytes : (p : BonePlain) → curve_bytes p (curves_at s at) ≡ cond p.curves [] (bytes_at s at 12) ++ cond p.rotation [] (bytes_at s (at + 12) 4)
+  unfolding bytes_at
   curve-bytes p = simp (add-zero, add_assoc)
 
 -- The three curves of a group, one by one.

@@ -2,7 +2,7 @@
 // orientation 4 f32", or "weight f32".
 ghost use Rattle.std.specs.Prelude.{◌≡◌, ◌+◌, ◌≤◌, length};
 ghost use Rattle.clip.specs.Keys.{float_at, posed};
-ghost use Rattle.clip.specs.Section.{bone_body, morph_body};
+ghost use Rattle.clip.specs.Section.{bone_body, morph_body, bytes_at};
 
 use binary::numbers;
 use records::pose::Pose;
@@ -22,6 +22,16 @@ pub struct MorphBody<'a> {
     ghost whole: { at + 4 ≤ length section.now },
 }
 
+// So many bytes of the section, by value: what is written into an output is read before.
+pub fn bytes<const N: usize>(s: &[u8], at: usize) -> [u8; N]
+    requires { at + N ≤ length s.now }
+    ensures { result ≡ bytes_at s.now at N }
+{
+    let mut bytes = [0; N];
+    bytes.copy_from_slice(&s[at..at + N]);
+    bytes
+}
+
 fn float_at(bytes: &[u8], at: usize) -> f32
     requires { at + 4 ≤ length bytes.now }
     ensures { result ≡ float_at bytes.now at }
@@ -29,54 +39,48 @@ fn float_at(bytes: &[u8], at: usize) -> f32
     num::f32_from_bits_with_nan(numbers::u32_at(bytes, at))
 }
 
+#[tactic(auto, unfolding(clip::specs::Section::bone_body))]
 impl<'a> BoneBody<'a> {
-    pub fn interpolation(&self) -> &'a [u8]
-        ensures { result.now ≡ (bone_body self.now.section.now self.now.at).interpolation }
+    pub fn translation(&self) -> [u8; 12]
+        ensures { result ≡ (bone_body self.now.section.now self.now.at).translation }
     {
-        &self.section[self.at..self.at + 16]
+        bytes(self.section, self.at + 16)
     }
 
-    pub fn translation(&self) -> &'a [u8]
-        ensures { result.now ≡ (bone_body self.now.section.now self.now.at).translation }
+    pub fn orientation(&self) -> [u8; 16]
+        ensures { result ≡ (bone_body self.now.section.now self.now.at).orientation }
     {
-        &self.section[self.at + 16..self.at + 28]
+        bytes(self.section, self.at + 28)
     }
 
-    pub fn orientation(&self) -> &'a [u8]
-        ensures { result.now ≡ (bone_body self.now.section.now self.now.at).orientation }
-    {
-        &self.section[self.at + 28..self.at + 44]
-    }
-
-    #[tactic(auto, using(crate::proofs::Bodies::length_translation, crate::proofs::Bodies::length_orientation))]
     pub fn pose(&self) -> Pose
         ensures { result ≡ posed (bone_body self.now.section.now self.now.at) }
     {
         let translation = self.translation();
         let orientation = self.orientation();
         Pose {
-            translation_x: float_at(translation, 0),
-            translation_y: float_at(translation, 4),
-            translation_z: float_at(translation, 8),
-            orientation_x: float_at(orientation, 0),
-            orientation_y: float_at(orientation, 4),
-            orientation_z: float_at(orientation, 8),
-            orientation_w: float_at(orientation, 12),
+            translation_x: float_at(&translation, 0),
+            translation_y: float_at(&translation, 4),
+            translation_z: float_at(&translation, 8),
+            orientation_x: float_at(&orientation, 0),
+            orientation_y: float_at(&orientation, 4),
+            orientation_z: float_at(&orientation, 8),
+            orientation_w: float_at(&orientation, 12),
         }
     }
 }
 
+#[tactic(auto, unfolding(clip::specs::Section::morph_body))]
 impl<'a> MorphBody<'a> {
-    pub fn weight_bytes(&self) -> &'a [u8]
-        ensures { result.now ≡ morph_body self.now.section.now self.now.at }
+    pub fn weight_bytes(&self) -> [u8; 4]
+        ensures { result ≡ morph_body self.now.section.now self.now.at }
     {
-        &self.section[self.at..self.at + 4]
+        bytes(self.section, self.at)
     }
 
-    #[tactic(auto, using(crate::proofs::Bodies::length_weight))]
     pub fn weight(&self) -> f32
         ensures { result ≡ float_at (morph_body self.now.section.now self.now.at) 0 }
     {
-        float_at(self.weight_bytes(), 0)
+        float_at(&self.weight_bytes(), 0)
     }
 }

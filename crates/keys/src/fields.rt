@@ -3,6 +3,7 @@ ghost use Rattle.std.specs.Prelude.{◌≡◌, cond, [], ◌+◌};
 ghost use Rattle.records.specs.Curves.{curves_at};
 ghost use Rattle.keys.specs.Placed.{Room, Wrote, pose_bytes, curve_bytes};
 
+use crate::body;
 use crate::body::BoneBody;
 use crate::plain::BonePlain;
 
@@ -31,8 +32,8 @@ impl BonePlain {
         requires { Room place (pose_bytes self body.now.section.now body.now.at) output.old }
         ensures { Wrote place (pose_bytes self body.now.section.now body.now.at) output.old result output.new }
     {
-        let next = put_unless(self.translation, body.translation(), output, place);
-        put_unless(self.orientation, body.orientation(), output, next)
+        let next = put_unless(self.translation, &body.translation(), output, place);
+        put_unless(self.orientation, &body.orientation(), output, next)
     }
 
     // The curves as they stand.
@@ -40,9 +41,10 @@ impl BonePlain {
         requires { Room place (curve_bytes self (curves_at body.now.section.now body.now.at)) output.old }
         ensures { Wrote place (curve_bytes self (curves_at body.now.section.now body.now.at)) output.old result output.new }
     {
-        let (curves, rotation) = body.interpolation().split_at(12);
-        let next = put_unless(self.curves, curves, output, place);
-        put_unless(self.rotation, rotation, output, next)
+        let curves: [u8; 12] = body::bytes(body.section, body.at);
+        let rotation: [u8; 4] = body::bytes(body.section, body.at + 12);
+        let next = put_unless(self.curves, &curves, output, place);
+        put_unless(self.rotation, &rotation, output, next)
     }
 
     pub fn write_curves(self, curves: [[u8; 4]; 4], output: &mut [u8], place: usize) -> usize

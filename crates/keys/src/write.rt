@@ -83,6 +83,6 @@ impl<'a> MorphBody<'a> {
         let plain = self.plain();
         let map = plain::unless(plain, 1);
         let weight = write_head(output, place, frame, map);
-        fields::put_unless(plain, self.weight_bytes(), output, weight)
+        fields::put_unless(plain, &self.weight_bytes(), output, weight)
     }
 }

@@ -11,8 +11,9 @@ ghost use Rattle.chains.specs.declared.block.Kind.{Kind};
 
 use chains::block::{Kind, Records};
 use chains::fault::{BoneIndex, Fault, MorphIndex};
+use keys::body::{BoneBody, MorphBody};
 use keys::pose;
-use keys::pose::Asked;
+use keys::pose::PoseFault;
 
 // Document 01: a morph key is answered as its frame and weight, or as the refusal that it met. An enum of its own, as document 01 names it
 // ("Forms by place in the code").
@@ -45,10 +46,14 @@ fn bone_key(
     ensures { (count : ℕ) → met_read bone count result ≡ key_meets s.now Kind.Bone track.0 frame body repeated }
 {
     frame_asked(track.0, frame, repeated)?;
-    match pose::bone_asked(s, body) {
-        Asked::Fine => Ok(()),
-        Asked::Translation => Err(Fault::Translation(track, frame)),
-        Asked::Orientation => Err(Fault::Orientation(track, frame)),
+    let body = BoneBody {
+        section: s,
+        at: body,
+    };
+    match body.asked() {
+        Ok(()) => Ok(()),
+        Err(PoseFault::Translation) => Err(Fault::Translation(track, frame)),
+        Err(PoseFault::Orientation) => Err(Fault::Orientation(track, frame)),
     }
 }
 
@@ -59,7 +64,11 @@ pub fn morph_key(s: &[u8], track: MorphIndex, frame: u32, body: usize, repeated:
     if let Err(fault) = frame_asked(track.0, frame, repeated) {
         return MorphKey::Refused(fault);
     }
-    let weight = pose::weight_at(s, body);
+    let body = MorphBody {
+        section: s,
+        at: body,
+    };
+    let weight = body.weight();
     if pose::finite(weight) {
         MorphKey::Key(frame, weight)
     } else {
@@ -97,12 +106,20 @@ fn body_fine(s: &[u8], kind: Kind, body: usize) -> bool
     ensures { result ≡ true → none ≡ asked_at s.now kind body }
 {
     match kind {
-        Kind::Bone => match pose::bone_asked(s, body) {
-            Asked::Fine => true,
-            Asked::Translation => false,
-            Asked::Orientation => false,
-        },
-        Kind::Morph => pose::finite(pose::weight_at(s, body)),
+        Kind::Bone => {
+            let bone = BoneBody {
+                section: s,
+                at: body,
+            };
+            bone.asked().is_ok()
+        }
+        Kind::Morph => {
+            let morph = MorphBody {
+                section: s,
+                at: body,
+            };
+            pose::finite(morph.weight())
+        }
     }
 }
 

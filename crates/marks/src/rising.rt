@@ -32,10 +32,8 @@ fn mark_chain(indexed: &Indexed, track: usize, marks: &mut [u16]) -> Option<usiz
     ensures chain_marked { ChainMarked indexed.now.records.section.now indexed.now.records.block track marks.old marks.new result }
     ensures marks_len_unchanged { length marks.new ≡ length marks.old }
 {
-    // A copy, so that the marks written do not make the processor read it again.
-    let indexed = *indexed;
-    let records = indexed.records;
-    if let Err(_) = ready::initial_key(&records, track) {
+    let records = &indexed.records;
+    if let Err(_) = ready::initial_key(records, track) {
         return None;
     }
     let mark = (track + 1) as u16;
@@ -47,7 +45,7 @@ fn mark_chain(indexed: &Indexed, track: usize, marks: &mut [u16]) -> Option<usiz
     while link != 0 {
         let at = indexed.lookup(link, near)?;
         let p = at.position;
-        if !behind(&records, p, expected, frame) {
+        if !behind(records, p, expected, frame) {
             return None;
         }
         marks[p] = mark;
@@ -65,9 +63,11 @@ fn mark_tracks(indexed: &Indexed, marks: &mut [u16]) -> Option<usize>
     ensures tracks_marked { TracksMarked indexed.now.records.section.now indexed.now.records.block marks.new result }
     ensures marks_len_unchanged { length marks.new ≡ length marks.old }
 {
+    // A copy, so that the marks written do not make the processor read it again.
+    let indexed = *indexed;
     let mut reached = 0;
     for track in 0..indexed.records.block.initials.count {
-        reached += mark_chain(indexed, track, marks)?;
+        reached += mark_chain(&indexed, track, marks)?;
     }
     Some(reached)
 }

@@ -17,9 +17,9 @@ use section::model;
 use section::model::{Model, ReadModel};
 
 // The clip is built, and its strip written. A refusal leaves the work slices as the build left them.
-fn build_and_write(
-    of_bones: &Records,
-    of_morphs: &Records,
+fn build_and_write<'a>(
+    of_bones: &Records<'a>,
+    of_morphs: &Records<'a>,
     first: &mut [u16],
     second: &mut [u16],
     output: &mut [u8],
@@ -30,17 +30,18 @@ fn build_and_write(
     let counted = clip_build::build_clip(of_bones, of_morphs, first, second)?;
     let middle = of_bones.block.records.count;
     let end = middle + of_morphs.block.records.count;
+    let slots = &first[..];
     let clip = Clip {
         bones: Chains {
             indexed: Indexed {
                 records: *of_bones,
-                slots: &first[..middle],
+                slots: &slots[..middle],
             },
         },
         morphs: Chains {
             indexed: Indexed {
                 records: *of_morphs,
-                slots: &first[middle..end],
+                slots: &slots[middle..end],
             },
         },
     };

@@ -22,7 +22,7 @@ fn behind(records: &Records, p: usize, expected: u32, frame: u32) -> bool
         return false;
     }
     let body = records.body_at(p);
-    key::fine(records, here, body)
+    key::fine(records.section, records.block.kind, here, body)
 }
 
 // How many links were followed, if nothing else was found. The chain may not end, so its links are looked up and tested one by one.

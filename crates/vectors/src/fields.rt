@@ -1,68 +1,47 @@
-// Little-endian numbers in the bytes of a file; a byte past the end counts as 0.
+// What is left of a part of a file, read from the front. Numbers are little endian; a byte past the end counts as 0.
 
-pub fn byte(s: &[u8], at: usize) -> u8 {
-    if at < s.len() {
-        return s[at];
-    }
-    0
+#[derive(Drop)]
+pub struct Fields<'a> {
+    left: &'a [u8],
 }
 
-// The position behind n bytes; it stops at 1,000,000, which no file here reaches, so that no sum wraps.
-pub fn behind(at: usize, n: usize) -> usize {
-    if at < 1000000 {
-        if n < 1000000 {
-            return at + n;
+impl<'a> Fields<'a> {
+    pub fn new(bytes: &'a [u8]) -> Fields<'a> {
+        Fields { left: bytes }
+    }
+
+    pub fn is_empty(&self) -> bool {
+        self.left.is_empty()
+    }
+
+    // The n bytes that come next, as far as there are so many.
+    pub fn part(&mut self, n: usize) -> Fields<'a> {
+        let (part, left) = self.left.split_at(n.min(self.left.len()));
+        self.left = left;
+        Fields { left: part }
+    }
+
+    fn array<const N: usize>(&mut self) -> [u8; N] {
+        let mut bytes = [0; N];
+        for (byte, next) in bytes.iter_mut().zip(self.part(N).left) {
+            *byte = *next;
         }
+        bytes
     }
-    1000000
-}
 
-// The position behind n numbers of two bytes.
-pub fn behind_u16s(at: usize, n: usize) -> usize {
-    if n < 100000 {
-        return behind(at, 2 * n);
+    pub fn u8(&mut self) -> u8 {
+        u8::from_le_bytes(self.array())
     }
-    behind(at, 1000000)
-}
 
-// The position behind n numbers of eight bytes.
-pub fn behind_u64s(at: usize, n: usize) -> usize {
-    if n < 100000 {
-        return behind(at, 8 * n);
+    pub fn u16(&mut self) -> u16 {
+        u16::from_le_bytes(self.array())
     }
-    behind(at, 1000000)
-}
 
-fn joined(low: u8, high: u8) -> u64 {
-    (low as u64) + 256 * (high as u64)
-}
-
-pub fn u16_at(s: &[u8], at: usize) -> u64 {
-    joined(byte(s, at), byte(s, behind(at, 1)))
-}
-
-fn halves(low: u64, high: u64) -> u64 {
-    if low < 65536 {
-        if high < 65536 {
-            return low + 65536 * high;
-        }
+    pub fn u32(&mut self) -> u32 {
+        u32::from_le_bytes(self.array())
     }
-    0
-}
 
-pub fn u32_at(s: &[u8], at: usize) -> u64 {
-    halves(u16_at(s, at), u16_at(s, behind(at, 2)))
-}
-
-fn words(low: u64, high: u64) -> u64 {
-    if low < 4294967296 {
-        if high < 4294967296 {
-            return low + 4294967296 * high;
-        }
+    pub fn u64(&mut self) -> u64 {
+        u64::from_le_bytes(self.array())
     }
-    0
-}
-
-pub fn u64_at(s: &[u8], at: usize) -> u64 {
-    words(u32_at(s, at), u32_at(s, behind(at, 4)))
 }

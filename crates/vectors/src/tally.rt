@@ -1,61 +1,77 @@
-// Counts of checks by what they are to answer: a refusal's number, 0 where the call refuses nothing, or the row of the calls that
-// answer bytes.
-use std::io;
+// Counts of checks by what they are to answer.
+use std::fmt;
 
-// How many rows there are; those of the wrong answers stand behind them.
-pub const ROWS: usize = 32;
-
-pub const BYTES: usize = 31;
-// The rows of the sections and of all checks.
-pub const SECTIONS: usize = 30;
-
-pub const CHECKS: usize = 29;
-
-fn more(n: u64) -> u64 {
-    if n < 1000000 {
-        return n + 1;
-    }
-    n
+#[derive(Clone, Copy)]
+pub enum Row {
+    // 0 where the call refuses nothing, or the refusal's number.
+    Returned(usize),
+    Bytes,
 }
 
-pub fn add(tally: &mut [u64; 64], row: usize) {
-    if row < 64 {
-        tally[row] = more(tally[row]);
-    }
+// How a check came out.
+#[derive(Clone, Copy)]
+pub struct Outcome {
+    pub row: Row,
+    pub right: bool,
 }
 
-pub fn add_check(tally: &mut [u64; 64], row: usize, right: bool) {
-    if row < ROWS {
-        add(tally, row);
+#[derive(Clone, Copy, Default)]
+pub struct Count {
+    made: u64,
+    wrong: u64,
+}
+
+impl Count {
+    fn add(&mut self, right: bool) {
+        self.made = self.made.saturating_add(1);
         if !right {
-            add(tally, row + ROWS);
+            self.wrong = self.wrong.saturating_add(1);
         }
     }
 }
 
-fn count(tally: &[u64; 64], row: usize) -> u64 {
-    if row < 64 {
-        return tally[row];
+impl fmt::Display for Count {
+    fn fmt<W: fmt::Write>(&self, f: &mut fmt::Formatter<W>) -> fmt::Result {
+        write!(f, "{} wrong {}", self.made, self.wrong)
     }
-    0
 }
 
-fn say(rt: &impl Print, what: &[u8], n: u64) -> io::Result<()> {
-    rt.write_all(what)?;
-    print!(rt; "{n}")
+#[derive(Clone, Copy, Default)]
+pub struct Tally {
+    sections: u64,
+    checks: u64,
+    // Refusals have numbers up to 20.
+    returned: [Count; 21],
+    bytes: Count,
 }
 
-pub fn say_row(rt: &impl Print, what: &[u8], tally: &[u64; 64], row: usize) -> io::Result<()> {
-    if row < ROWS {
-        say(rt, what, count(tally, row))?;
-        say(rt, b" wrong ", count(tally, row + ROWS))?;
-        println!(rt)?;
+impl Tally {
+    pub fn add_section(&mut self) {
+        self.sections = self.sections.saturating_add(1);
     }
-    Ok(())
+
+    pub fn add(&mut self, check: Outcome) {
+        self.checks = self.checks.saturating_add(1);
+        match check.row {
+            Row::Returned(number) => {
+                if let Some(count) = self.returned.get_mut(number) {
+                    count.add(check.right);
+                }
+            }
+            Row::Bytes => self.bytes.add(check.right),
+        }
+    }
+
+    pub fn count(&self, row: Row) -> Count {
+        match row {
+            Row::Returned(number) => self.returned.get(number).copied().unwrap_or_default(),
+            Row::Bytes => self.bytes,
+        }
+    }
 }
 
-pub fn say_sizes(rt: &impl Print, tally: &[u64; 64]) -> io::Result<()> {
-    say(rt, b"sections ", count(tally, SECTIONS))?;
-    say(rt, b"\nchecks ", count(tally, CHECKS))?;
-    println!(rt)
+impl fmt::Display for Tally {
+    fn fmt<W: fmt::Write>(&self, f: &mut fmt::Formatter<W>) -> fmt::Result {
+        write!(f, "sections {}\nchecks {}", self.sections, self.checks)
+    }
 }

@@ -5,7 +5,8 @@ use mathlib.Core.List.{List as ListOf}
 use mathlib.Core.Path.{◌≡◌, refl, subst}
 use native.Mathlib.Omega.{arith}
 use borrow.Author.Tests.{lt-ltb, le-ltb}
-use Rattle.layout.specs.Walk.{Refusal, Walk, fine, refused, Reader, Answer, answered, declined, answer, after, Part}
+use Rattle.layout.specs.Walk.{Refusal, Walk, fine, refused, Reader, Answer, answered, declined, answer, after}
+use Rattle.layout.specs.declared.Part.{Part}
 use Rattle.layout.proofs.Walks.{Walks, walks-bool, walks-u32}
 use Rattle.records.proofs.Table.{bones-walk, morphs-walk, models-walk, bone-states-walk, u32x4-walks}
 use Rattle.records.specs.Keyframes.{model_bits}

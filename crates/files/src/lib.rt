@@ -1,5 +1,7 @@
-// Reading for the programs: into a slice, as far as a file or standard input goes.
+// Reading for the programs: into a slice, as far as a file or standard input goes. hex prints what is read.
 #![tactic(auto)]
+
+pub mod hex;
 
 ghost use Rattle.std.specs.Prelude.{◌≤◌, length, IfOk};
 

@@ -2,6 +2,7 @@
 // every record, bytes in hexadecimal. The section is the file `section`, from its fourth byte on.
 #![tactic(auto)]
 
+use files::hex::Hex;
 use lists::keyframe::payload;
 use lists::texts;
 use lists::texts::Text;
@@ -14,19 +15,6 @@ use std::{fmt, io};
 
 // Where the section starts in its file.
 const START: usize = 3;
-
-// Bytes in hexadecimal.
-#[derive(Clone, Copy)]
-struct Hex<'a>(&'a [u8]);
-
-impl fmt::Display for Hex<'_> {
-    fn fmt<W: fmt::Write>(&self, f: &mut fmt::Formatter<W>) -> fmt::Result {
-        for byte in self.0 {
-            write!(f, "{byte:02x}")?;
-        }
-        Ok(())
-    }
-}
 
 // Every entry of a list, one a line.
 fn show_list<'a, F: Fn(usize) -> &'a [u8]>(

@@ -1,4 +1,7 @@
 // Counts of checks by what they are to answer.
+ghost use Rattle.std.specs.Prelude.{◌≡◌};
+ghost use Rattle.vectors.specs.Tally.{counted, one_more, added, count_of};
+
 use std::fmt;
 
 #[derive(Clone, Copy)]
@@ -17,12 +20,14 @@ pub struct Outcome {
 
 #[derive(Clone, Copy, Default)]
 pub struct Count {
-    made: u64,
-    wrong: u64,
+    pub made: u64,
+    pub wrong: u64,
 }
 
 impl Count {
-    fn add(&mut self, right: bool) {
+    fn add(&mut self, right: bool)
+        ensures { self.new ≡ counted right self.old }
+    {
         self.made = self.made.saturating_add(1);
         if !right {
             self.wrong = self.wrong.saturating_add(1);
@@ -38,31 +43,39 @@ impl fmt::Display for Count {
 
 #[derive(Clone, Copy, Default)]
 pub struct Tally {
-    sections: u64,
-    checks: u64,
+    pub sections: u64,
+    pub checks: u64,
     // Refusals have numbers up to 20.
-    returned: [Count; 21],
-    bytes: Count,
+    pub returned: [Count; 21],
+    pub bytes: Count,
 }
 
 impl Tally {
-    pub fn add_section(&mut self) {
+    pub fn add_section(&mut self)
+        ensures { self.new ≡ record self.old { sections = one_more self.old.sections } }
+    {
         self.sections = self.sections.saturating_add(1);
     }
 
-    pub fn add(&mut self, check: Outcome) {
+    #[tactic(auto, unfolding(crate::specs::Tally::added))]
+    pub fn add(&mut self, check: Outcome)
+        ensures { self.new ≡ added check.row check.right self.old }
+    {
         self.checks = self.checks.saturating_add(1);
         match check.row {
             Row::Returned(number) => {
-                if let Some(count) = self.returned.get_mut(number) {
-                    count.add(check.right);
+                if number < self.returned.len() {
+                    self.returned[number].add(check.right);
                 }
             }
             Row::Bytes => self.bytes.add(check.right),
         }
     }
 
-    pub fn count(&self, row: Row) -> Count {
+    #[tactic(auto, unfolding(crate::specs::Tally::count_of))]
+    pub fn count(&self, row: Row) -> Count
+        ensures { result ≡ count_of row self.now }
+    {
         match row {
             Row::Returned(number) => self.returned.get(number).copied().unwrap_or_default(),
             Row::Bytes => self.bytes,

@@ -15,31 +15,32 @@ use mir.ValLaws.{to_z-of_z}
 use lib.Seq.{drop-cons, set_out, take_all, take-nil, take-suc-set, drop-set-lt}
 use Rattle.numbers.specs.Put.{put}
 
-pub put-none : (at : ℕ) (slice : List ℕ) → put at [] slice ≡ slice
+pub put-none : {A : Type 0} (at : ℕ) (slice : List A) → put at [] slice ≡ slice
 unfolding put
 put-none at slice = refl
 
-pub put-past : (at : ℕ) (xs slice : List ℕ) → length slice ≤ at → put at xs slice ≡ slice
+pub put-past : {A : Type 0} (at : ℕ) (xs slice : List A) → length slice ≤ at → put at xs slice ≡ slice
 unfolding put
 put-past at [] slice past = refl
 put-past at (x ∷ xs) slice past =
     let same = set_out slice at x past in
     ap (put (suc at) xs) same ∙ put-past (suc at) xs slice (omega (arith, past))
 
-pub length-put : (at : ℕ) (xs slice : List ℕ) → length (put at xs slice) ≡ length slice
+pub length-put : {A : Type 0} (at : ℕ) (xs slice : List A) → length (put at xs slice) ≡ length slice
 unfolding put
 length-put at [] slice = refl
 length-put at (x ∷ xs) slice = length-put (suc at) xs (set slice at x) ∙ length-set slice at x
 
 -- A turn of the loop: number i goes to its place.
-pub put-turn : (to i : ℕ) (xs slice : List ℕ) → i < length xs → put to (drop i xs) slice ≡ put (to + 1) (drop (i + 1) xs) (set slice to (get_or xs i 0))
+pub put-turn : {A : Type 0} (to i : ℕ) (xs slice : List A) (x : A) → i < length xs → x ≡ get_or xs i x → put to (drop i xs) slice ≡ put (to + 1) (drop (i + 1) xs) (set slice to x)
 unfolding put
-put-turn to i xs slice within =
-    rw (add-one to, add-one i) (ap (λ (ys : List ℕ). put to ys slice) (drop-cons xs i 0 within))
+put-turn {A} to i xs slice x within is =
+    rw (add-one to, add-one i)
+    (ap (λ (ys : List A). put to ys slice) (drop-cons xs i x within) ∙ ap (λ (y : A). put (suc to) (drop (suc i) xs) (set slice to y)) (sym is))
 
 -- The loop's end: every number has its place, or there is no place left.
-pub put-done : (to i : ℕ) (xs slice : List ℕ) → length xs ≤ i → put to (drop i xs) slice ≡ slice
-put-done to i xs slice past = ap (λ (ys : List ℕ). put to ys slice) (drop_of_length-le xs past) ∙ put-none to slice
+pub put-done : {A : Type 0} (to i : ℕ) (xs slice : List A) → length xs ≤ i → put to (drop i xs) slice ≡ slice
+put-done {A} to i xs slice past = ap (λ (ys : List A). put to ys slice) (drop_of_length-le xs past) ∙ put-none to slice
 
 -- Writing xs and then ys behind them is writing xs ++ ys.
 pub put-append : (at : ℕ) (xs ys slice : List ℕ) → put at (xs ++ ys) slice ≡ put (at + length xs) ys (put at xs slice)

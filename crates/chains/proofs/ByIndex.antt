@@ -9,7 +9,7 @@ use mathlib.Core.Path.{◌≡◌, refl, sym, ◌∙◌, subst}
 use borrow.Author.Tests.{ltb-true, ltb-false, lt-ltb, le-ltb, eq-eqb, ne_eqb}
 use lib.Dec.{eqb, ltb}
 use lib.ListN.{length, get_or}
-use Rattle.order.specs.declared.answer.Find.{Find}
+use Rattle.std.proofs.Common.{Some, None}
 use Rattle.order.specs.Field.{number_of, key_of, Within}
 use Rattle.order.specs.Field as Order
 use Rattle.order.specs.Find.{NumbersRise, Finds}
@@ -176,19 +176,13 @@ module _ (s : List ℕ) (b : Block) (fits : Fits s b) where
         place_of p slots (subst (λ (xs : List ℕ). 0 < times p xs) (sym is) (rw (once, inside) (omega arith)))
 
     module _ (x : Indexed (links s b)) (link : ℕ) where
-      pub lookup-at : (r : Find) (i : ℕ) → Finds s b.records slots link r → r ≡ Find.At i → some (get_or slots i 0) ≡ record_of (links s b) link
+      pub lookup-at : (i : ℕ) → Finds s b.records slots link (Some i) → some (get_or slots i 0) ≡ record_of (links s b) link
       unfolding number_of additional_at
-      lookup-at r i contract seen =
-          let at : Finds s b.records slots link (Find.At i) = subst (λ (r : Find). Finds s b.records slots link r) seen contract in
-          sym (of-record (links s b) x link (get_or slots i 0) (slots-below i at.0) at.1)
+      lookup-at i at = sym (of-record (links s b) x link (get_or slots i 0) (slots-below i at.0) at.1)
 
-      pub lookup-inside : (r : Find) (i : ℕ) → Finds s b.records slots link r → r ≡ Find.At i → i < length slots
-      lookup-inside r i contract seen = (subst (λ (r : Find). Finds s b.records slots link r) seen contract).0
-
-      pub lookup_absent : (r : Find) → Finds s b.records slots link r → r ≡ Find.Absent → none ≡ record_of (links s b) link
+      pub lookup_absent : Finds s b.records slots link None → none ≡ record_of (links s b) link
       unfolding number_of additional_at record_of
-      lookup_absent r contract seen =
-          let none_has : Finds s b.records slots link Find.Absent = subst (λ (r : Find). Finds s b.records slots link r) seen contract in
+      lookup_absent none_has =
           sym (none_first b.records.count (λ p. given (eqb ((links s b).at p).index link) p) (λ p lt.
           let at = slot_of p lt in
           none-given _ p (ne_eqb ((links s b).at p).index link (λ same. none_has at.place at.inside (subst (λ (q : ℕ). ((links s b).at q).index ≡ link) (sym at.is) same)))))

@@ -3,3 +3,4 @@ pub mod Going
 pub mod ByIndex
 pub mod Scanned
 pub mod RisingIndices
+pub mod AlongChain

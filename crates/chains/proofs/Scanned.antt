@@ -9,6 +9,8 @@ use mathlib.Core.Path.{◌≡◌, refl, sym, ◌∙◌, subst}
 use borrow.Author.Tests.{le-leb, lt-leb, lt-ltb, le-ltb, ltb-true, ltb-false, eq-eqb, ne_eqb}
 use lib.Dec.{eqb, ltb}
 use lib.IntN.{pos}
+use Rattle.order.specs.Close.{Repeated}
+use Rattle.order.specs.declared.field.Field.{Field}
 use Rattle.order.specs.Field.{number_of}
 use Rattle.order.specs.Repeat.{FirstRepeat, up_to}
 use Rattle.order.specs.Sorted.{Sorted, times}
@@ -26,6 +28,10 @@ use Rattle.chains.specs.Lookup.{Ordered}
 use Rattle.chains.specs.Scan.{InRange}
 use Rattle.chains.specs.declared.block.Block.{Block}
 use Rattle.chains.proofs.ByIndex.{index-field, is-by_index}
+
+-- What the search for repeats answers, where the slots have a place for each record.
+pub repeated-in : {s : List ℕ} {f : Field} {n k m : ℕ} {slots : List ℕ} → n ≡ k → Repeated s f n slots m → Repeated s f k slots m
+repeated-in {s} {f} {n} {k} {m} {slots} same told = subst (λ (l : ℕ). Repeated s f l slots m) same told
 
 module _ (s : List ℕ) (b : Block) where
   module _ (n : ℕ) (ranged : InRange s b n) (m : ℕ) (repeat : FirstRepeat (number_of s b.records) b.records.count m) where

@@ -1,11 +1,10 @@
 -- What each refusal of a build says in document 01's terms. Definitions only.
-use Rattle.std.specs.Prelude.{ℕ, [], ◌∷◌, pos}
+use Rattle.std.specs.Prelude.{ℕ, [], ◌∷◌, pos, Result, Ok, Err}
 use Rattle.std.proofs.Math.Option.{Option, none, some}
 use Rattle.layout.specs.Walk.{Refusal, refusal}
 use Rattle.clip.specs.Fields.{refusal_of, signed}
 use Rattle.clip.specs.Fields as Fields
 use Rattle.chains.specs.declared.fault.Fault.{Fault}
-use Rattle.chains.specs.declared.fault.Met.{Met}
 
 -- For a kind with so many tracks.
 abbrev pub fault_of : Fields.Kind → ℕ → Fault → Refusal
@@ -22,6 +21,6 @@ fault_of kind count (Fault.Orientation track frame) = refusal 13 (pos track.0 �
 fault_of kind count (Fault.Weight track frame) = refusal 14 (pos track.0 ∷ signed frame ∷ [])
 fault_of kind count (Fault.Disconnected records) = refusal_of kind 15 (pos records ∷ [])
 
-abbrev pub met_read : Fields.Kind → ℕ → Met → Option Refusal
-met_read kind count Met.Nothing = none
-met_read kind count (Met.Refused fault) = some (fault_of kind count fault)
+abbrev pub met_read : Fields.Kind → ℕ → Result (Unit {0}) Fault → Option Refusal
+met_read kind count (Ok none_met) = none
+met_read kind count (Err fault) = some (fault_of kind count fault)

@@ -1,5 +1,7 @@
 pub mod Block
 pub mod Lookup
-pub mod Walk
 pub mod Fault
+pub mod Walk
 pub mod Scan
+pub mod Chain
+pub mod Positions

@@ -1,11 +1,11 @@
 -- Records found by their index, in the first work slice. Definitions only.
-use Rattle.std.specs.Prelude.{ℕ, List, ◌≡◌}
-use Rattle.std.proofs.Math.Option.{Option, none, some}
+use Rattle.std.specs.Prelude.{ℕ, List, ◌≡◌, Option, Some, None}
+use Rattle.std.proofs.Math.Option as maybe
 use Rattle.clip.specs.Scan.{Indexed}
 use Rattle.strip.specs.Work.{by_index}
 use Rattle.chains.specs.Block.{Fits, links}
 use Rattle.chains.specs.declared.block.Block.{Block}
-use Rattle.chains.specs.declared.lookup.Found.{Found}
+use Rattle.chains.specs.declared.standing.Standing.{Standing}
 
 -- The index scan has passed, and the slots hold the positions by rising index.
 pub record Ordered (s : List ℕ) (b : Block) (slots : List ℕ) : Type 0 where
@@ -13,6 +13,6 @@ pub record Ordered (s : List ℕ) (b : Block) (slots : List ℕ) : Type 0 where
   pub indexed : Indexed (links s b)
   pub positions : slots ≡ by_index (links s b) b.records.count
 
-abbrev pub found_read : Found → Option ℕ
-found_read (Found.At p place) = some p
-found_read Found.Absent = none
+abbrev pub found_read : Option Standing → maybe.Option ℕ
+found_read (Some at) = maybe.some at.position
+found_read None = maybe.none

@@ -6,7 +6,7 @@ ghost use Rattle.chains.specs.Block.{Fits, links};
 use binary::numbers;
 use order::field::Field;
 
-#[derive(Clone, Copy)]
+#[derive(Clone, Copy, Debug, PartialEq, Eq)]
 pub enum Kind {
     Bone,
     Morph,
@@ -20,6 +20,14 @@ pub struct Block {
     pub records: Field,
 }
 
+// The records in the lent bytes.
+#[derive(Clone, Copy)]
+pub struct Records<'a> {
+    pub section: &'a [u8],
+    pub block: Block,
+    pub ghost fits: { Fits section.now block },
+}
+
 // Where a record begins.
 fn place(f: Field, p: usize) -> usize
     requires { f.first + p * f.width < 18446744073709551616 }
@@ -28,89 +36,72 @@ fn place(f: Field, p: usize) -> usize
     f.first + p * f.width
 }
 
-// A number of the additional record at a position, so many bytes behind its index.
-fn record_number(s: &[u8], b: Block, p: usize, bytes: usize) -> u32
-    requires fits { Fits s.now b }
-    requires p_lt_count { p < b.records.count }
-    requires bytes_bound { bytes ≤ 12 }
-    ensures { result ≡ u32_at s.now (b.records.first + p * b.records.width + bytes) }
-{
-    numbers::u32_at(s, place(b.records, p) + bytes)
-}
+#[tactic(auto, unfolding(clip::specs::Section::additional_at, clip::specs::Section::initial_at))]
+impl<'a> Records<'a> {
+    // A number of a record, so many bytes behind its first one.
+    fn number(&self, f: Field, p: usize, bytes: usize) -> u32
+        requires { f.first + p * f.width + bytes + 4 ≤ length self.now.section.now }
+        ensures { result ≡ u32_at self.now.section.now (f.first + p * f.width + bytes) }
+    {
+        numbers::u32_at(self.section, place(f, p) + bytes)
+    }
 
-// A number of a track's initial record, so many bytes behind its frame.
-fn initial_number(s: &[u8], b: Block, track: usize, bytes: usize) -> u32
-    requires fits { Fits s.now b }
-    requires track_lt_count { track < b.initials.count }
-    requires bytes_bound { bytes ≤ 8 }
-    ensures { result ≡ u32_at s.now (b.initials.first + track * b.initials.width + bytes) }
-{
-    numbers::u32_at(s, place(b.initials, track) + bytes)
-}
+    // The numbers of the additional record at a position.
+    pub fn index_at(&self, p: usize) -> u32
+        requires { p < self.now.block.records.count }
+        ensures { result ≡ ((links self.now.section.now self.now.block).at p).index }
+    {
+        self.number(self.block.records, p, 0)
+    }
 
-// The numbers of the additional record at a position.
-pub fn index_at(s: &[u8], b: Block, p: usize) -> u32
-    requires fits { Fits s.now b }
-    requires p_lt_count { p < b.records.count }
-    ensures { result ≡ ((links s.now b).at p).index }
-{
-    record_number(s, b, p, 0)
-}
+    pub fn frame_at(&self, p: usize) -> u32
+        requires { p < self.now.block.records.count }
+        ensures { result ≡ ((links self.now.section.now self.now.block).at p).frame }
+    {
+        self.number(self.block.records, p, 4)
+    }
 
-pub fn frame_at(s: &[u8], b: Block, p: usize) -> u32
-    requires fits { Fits s.now b }
-    requires p_lt_count { p < b.records.count }
-    ensures { result ≡ ((links s.now b).at p).frame }
-{
-    record_number(s, b, p, 4)
-}
+    pub fn previous_at(&self, p: usize) -> u32
+        requires { p < self.now.block.records.count }
+        ensures { result ≡ ((links self.now.section.now self.now.block).at p).previous }
+    {
+        self.number(self.block.records, p, 8)
+    }
 
-pub fn previous_at(s: &[u8], b: Block, p: usize) -> u32
-    requires fits { Fits s.now b }
-    requires p_lt_count { p < b.records.count }
-    ensures { result ≡ ((links s.now b).at p).previous }
-{
-    record_number(s, b, p, 8)
-}
+    pub fn next_at(&self, p: usize) -> u32
+        requires { p < self.now.block.records.count }
+        ensures { result ≡ ((links self.now.section.now self.now.block).at p).next }
+    {
+        self.number(self.block.records, p, 12)
+    }
 
-pub fn next_at(s: &[u8], b: Block, p: usize) -> u32
-    requires fits { Fits s.now b }
-    requires p_lt_count { p < b.records.count }
-    ensures { result ≡ ((links s.now b).at p).next }
-{
-    record_number(s, b, p, 12)
-}
+    // Where a record's body begins: behind its links.
+    pub fn body_at(&self, p: usize) -> usize
+        requires { p < self.now.block.records.count }
+        ensures { result ≡ ((links self.now.section.now self.now.block).at p).body }
+    {
+        place(self.block.records, p) + 16
+    }
 
-// The numbers of a track's initial record.
-pub fn first_frame(s: &[u8], b: Block, track: usize) -> u32
-    requires fits { Fits s.now b }
-    requires track_lt_count { track < b.initials.count }
-    ensures { result ≡ ((links s.now b).initial track).frame }
-{
-    initial_number(s, b, track, 0)
-}
+    // The numbers of a track's initial record.
+    pub fn first_frame(&self, track: usize) -> u32
+        requires { track < self.now.block.initials.count }
+        ensures { result ≡ ((links self.now.section.now self.now.block).initial track).frame }
+    {
+        self.number(self.block.initials, track, 0)
+    }
 
-pub fn first_link(s: &[u8], b: Block, track: usize) -> u32
-    requires fits { Fits s.now b }
-    requires track_lt_count { track < b.initials.count }
-    ensures { result ≡ ((links s.now b).initial track).next }
-{
-    initial_number(s, b, track, 8)
-}
+    pub fn first_link(&self, track: usize) -> u32
+        requires { track < self.now.block.initials.count }
+        ensures { result ≡ ((links self.now.section.now self.now.block).initial track).next }
+    {
+        self.number(self.block.initials, track, 8)
+    }
 
-// Where a record's body begins: behind its links.
-pub fn body_at(s: &[u8], b: Block, p: usize) -> usize
-    requires fits { Fits s.now b }
-    requires p_lt_count { p < b.records.count }
-    ensures { result ≡ ((links s.now b).at p).body }
-{
-    place(b.records, p) + 16
-}
-
-pub fn first_body(s: &[u8], b: Block, track: usize) -> usize
-    requires fits { Fits s.now b }
-    requires track_lt_count { track < b.initials.count }
-    ensures { result ≡ ((links s.now b).initial track).body }
-{
-    place(b.initials, track) + 12
+    pub fn first_body(&self, track: usize) -> usize
+        requires { track < self.now.block.initials.count }
+        ensures { result ≡ ((links self.now.section.now self.now.block).initial track).body }
+    {
+        place(self.block.initials, track) + 12
+    }
 }

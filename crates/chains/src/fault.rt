@@ -1,13 +1,17 @@
 // What a build meets.
+ghost use Rattle.std.specs.Prelude.{◌≡◌, ℕ};
+ghost use Rattle.clip.specs.Fields.{Kind};
+ghost use Rattle.chains.specs.Fault.{fault_of};
+
 // "`BoneIndex` and `MorphIndex` number two kinds of track that are kept separate."
-#[derive(Clone, Copy)]
+#[derive(Clone, Copy, Debug, PartialEq, Eq)]
 pub struct BoneIndex(pub u32);
 
-#[derive(Clone, Copy)]
+#[derive(Clone, Copy, Debug, PartialEq, Eq)]
 pub struct MorphIndex(pub u32);
 
 // What a build meets first, if anything. Indices, links and frames are their 32 bits; specs/Fault.antt gives document 01's number and values.
-#[derive(Clone, Copy)]
+#[derive(Clone, Copy, Debug, PartialEq, Eq)]
 pub enum Fault {
     NegativeIndex(u32),
     IndexBelowCount(u32),
@@ -23,8 +27,24 @@ pub enum Fault {
     Disconnected(usize),
 }
 
-#[derive(Clone, Copy)]
-pub enum Met {
-    Nothing,
-    Refused(Fault),
+impl Fault {
+    // Document 01's number.
+    pub fn number(self) -> u8
+        ensures { (kind : Kind) (count : ℕ) → result ≡ (fault_of kind count self).number }
+    {
+        match self {
+            Fault::NegativeIndex(_) => 3,
+            Fault::IndexBelowCount(_) => 4,
+            Fault::RepeatedIndex(_) => 5,
+            Fault::Missing(_, _) => 6,
+            Fault::Cycle(_, _) => 7,
+            Fault::Wrong(_, _, _, _) => 8,
+            Fault::NegativeFrame(_, _) => 10,
+            Fault::RepeatedFrame(_, _) => 11,
+            Fault::Translation(_, _) => 12,
+            Fault::Orientation(_, _) => 13,
+            Fault::Weight(_, _) => 14,
+            Fault::Disconnected(_) => 15,
+        }
+    }
 }

@@ -3,8 +3,11 @@
 #![tactic(auto)]
 
 pub mod block;
+pub mod chain;
 pub mod fault;
 pub mod lookup;
 pub mod near;
+pub mod positions;
 pub mod scan;
+pub mod standing;
 pub mod walk;

@@ -4,40 +4,50 @@ ghost use Rattle.clip.specs.Scan.{record_of};
 ghost use Rattle.chains.specs.Block.{links};
 ghost use Rattle.chains.specs.Lookup.{Ordered, found_read};
 
-use crate::block;
-use crate::block::Block;
+use crate::block::Records;
 use crate::near::Near;
-use order::answer::Find;
-use order::search;
+use crate::standing::Standing;
+use order::field::Numbers;
+use order::search::Rising;
+use order::slots::Slots;
 
-// The position of the record, and its place in the slots.
+// The records whose index scan has passed, and the first work slice, which holds their positions by rising index.
 #[derive(Clone, Copy)]
-pub enum Found {
-    At(usize, usize),
-    Absent,
+pub struct Indexed<'a> {
+    pub records: Records<'a>,
+    pub slots: &'a [u16],
+    pub ghost ordered: { Ordered records.section.now records.block slots.now },
 }
 
-fn by_index(s: &[u8], b: Block, slots: &[u16], link: u32) -> Found
-    requires { Ordered s.now b slots.now }
-    ensures { found_read result ≡ record_of (links s.now b) link }
-{
-    match search::find(s, b.records, slots, link) {
-        Find::At(i) => Found::At(slots[i] as usize, i),
-        Find::Absent => Found::Absent,
+impl<'a> Indexed<'a> {
+    fn by_index(&self, link: u32) -> Option<Standing>
+        ensures { found_read result ≡ record_of (links self.now.records.section.now self.now.records.block) link }
+    {
+        let numbers = Numbers {
+            section: self.records.section,
+            field: self.records.block.records,
+        };
+        let slots = Slots {
+            numbers,
+            positions: self.slots,
+        };
+        let rising = Rising { slots };
+        let place = rising.find(link)?;
+        let position = self.slots[place] as usize;
+        Some(Standing { position, place })
     }
-}
 
-// The guess first: if the record that stands there bears the link, no other one does.
-pub fn lookup(s: &[u8], b: Block, slots: &[u16], link: u32, near: Near) -> Found
-    requires { Ordered s.now b slots.now }
-    ensures { found_read result ≡ record_of (links s.now b) link }
-{
-    let guess = near.next;
-    if guess < slots.len() {
-        let p = slots[guess] as usize;
-        if block::index_at(s, b, p) == link {
-            return Found::At(p, guess);
+    // The guess first: if the record that stands there bears the link, no other one does.
+    pub fn lookup(&self, link: u32, near: Near) -> Option<Standing>
+        ensures { found_read result ≡ record_of (links self.now.records.section.now self.now.records.block) link }
+    {
+        let place = near.next;
+        if place < self.slots.len() {
+            let position = self.slots[place] as usize;
+            if self.records.index_at(position) == link {
+                return Some(Standing { position, place });
+            }
         }
+        self.by_index(link)
     }
-    by_index(s, b, slots, link)
 }

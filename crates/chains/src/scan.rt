@@ -2,87 +2,83 @@
 ghost use Rattle.std.specs.Prelude.{true, ◌≡◌, length};
 ghost use Rattle.std.proofs.Math.Option.{none};
 ghost use Rattle.clip.specs.Scan.{scan};
-ghost use Rattle.chains.specs.Block.{Fits, kind_of, links};
+ghost use Rattle.chains.specs.Block.{kind_of, links};
 ghost use Rattle.chains.specs.Lookup.{Ordered};
 ghost use Rattle.chains.specs.Fault.{met_read};
 ghost use Rattle.chains.specs.Scan.{InRange, IndicesRise};
 
-use crate::block;
-use crate::block::Block;
-use crate::fault::{Fault, Met};
+use crate::block::Records;
+use crate::fault::Fault;
+use order::field::Numbers;
 use order::repeats;
 
 // Whether indices rise from the kind's count on, as they do in the files that MMD writes. The last one is the largest.
-fn rising(s: &[u8], b: Block) -> bool
-    requires { Fits s.now b }
-    ensures { result ≡ true → IndicesRise s.now b }
+fn rising(records: &Records) -> bool
+    ensures { result ≡ true → IndicesRise records.now.section.now records.now.block }
 {
-    let mut least = b.initials.count;
-    let mut p = 0;
-    while p < b.records.count {
-        let index = block::index_at(s, b, p) as usize;
+    let mut least = records.block.initials.count;
+    for p in 0..records.block.records.count {
+        let index = records.index_at(p) as usize;
         if index < least {
             return false;
         }
         least = index + 1;
-        p = p + 1;
     }
     least <= 2147483648
 }
 
 // How many records in front have an index that is not negative and not below the kind's count.
-fn in_range(s: &[u8], b: Block) -> usize
-    requires { Fits s.now b }
-    ensures { InRange s.now b result }
+fn in_range(records: &Records) -> usize
+    ensures { InRange records.now.section.now records.now.block result }
 {
-    let mut p = 0;
-    while p < b.records.count {
-        let index = block::index_at(s, b, p);
+    for p in 0..records.block.records.count {
+        let index = records.index_at(p);
         if 2147483648 <= index {
             return p;
         }
-        if (index as usize) < b.initials.count {
+        if (index as usize) < records.block.initials.count {
             return p;
         }
-        p = p + 1;
     }
-    p
+    records.block.records.count
 }
 
 // 3 and 4 are met before 5 at a record, and a repeat at a record before it is met earlier.
-fn scan_any(s: &[u8], b: Block, slots: &mut [u16]) -> Met
-    requires fits { Fits s.now b }
-    requires slots_len { length slots.old ≡ b.records.count }
-    ensures result_value { met_read (kind_of b.kind) b.initials.count result ≡ scan (kind_of b.kind) (links s.now b) }
-    ensures ordered { scan (kind_of b.kind) (links s.now b) ≡ none → Ordered s.now b slots.new }
+fn scan_any(records: &Records, slots: &mut [u16]) -> Result<(), Fault>
+    requires { length slots.old ≡ records.now.block.records.count }
+    ensures result_value { met_read (kind_of records.now.block.kind) records.now.block.initials.count result ≡ scan (kind_of records.now.block.kind) (links records.now.section.now records.now.block) }
+    ensures ordered { scan (kind_of records.now.block.kind) (links records.now.section.now records.now.block) ≡ none → Ordered records.now.section.now records.now.block slots.new }
     ensures slots_len_unchanged { length slots.new ≡ length slots.old }
 {
-    let passed = in_range(s, b);
-    let repeated = repeats::first_repeat(s, b.records, slots);
+    let passed = in_range(records);
+    let indices = Numbers {
+        section: records.section,
+        field: records.block.records,
+    };
+    let repeated = repeats::first_repeat(&indices, slots);
     if repeated < passed {
-        return Met::Refused(Fault::RepeatedIndex(block::index_at(s, b, repeated)));
+        return Err(Fault::RepeatedIndex(records.index_at(repeated)));
     }
-    if passed < b.records.count {
-        let index = block::index_at(s, b, passed);
+    if passed < records.block.records.count {
+        let index = records.index_at(passed);
         if 2147483648 <= index {
-            return Met::Refused(Fault::NegativeIndex(index));
+            return Err(Fault::NegativeIndex(index));
         }
-        return Met::Refused(Fault::IndexBelowCount(index));
+        return Err(Fault::IndexBelowCount(index));
     }
-    Met::Nothing
+    Ok(())
 }
 
 // Indices that rise cost one pass, and no positions need to be sorted.
-pub fn index_scan(s: &[u8], b: Block, slots: &mut [u16]) -> Met
-    requires fits { Fits s.now b }
-    requires slots_len { length slots.old ≡ b.records.count }
-    ensures result_value { met_read (kind_of b.kind) b.initials.count result ≡ scan (kind_of b.kind) (links s.now b) }
-    ensures ordered { scan (kind_of b.kind) (links s.now b) ≡ none → Ordered s.now b slots.new }
+pub fn index_scan(records: &Records, slots: &mut [u16]) -> Result<(), Fault>
+    requires { length slots.old ≡ records.now.block.records.count }
+    ensures result_value { met_read (kind_of records.now.block.kind) records.now.block.initials.count result ≡ scan (kind_of records.now.block.kind) (links records.now.section.now records.now.block) }
+    ensures ordered { scan (kind_of records.now.block.kind) (links records.now.section.now records.now.block) ≡ none → Ordered records.now.section.now records.now.block slots.new }
     ensures slots_len_unchanged { length slots.new ≡ length slots.old }
 {
-    if rising(s, b) {
+    if rising(records) {
         repeats::fill(slots);
-        return Met::Nothing;
+        return Ok(());
     }
-    scan_any(s, b, slots)
+    scan_any(records, slots)
 }

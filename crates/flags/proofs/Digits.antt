@@ -1,5 +1,5 @@
 -- Binary digits of a number, and of the number with one of them raised. Assumes nothing.
-use Prim.Native.Nat.{ℕ, zero, suc, ◌+◌, ◌*◌, ◌/◌, ◌%◌, ◌^◌, ◌<◌}
+use Prim.Native.Nat.{ℕ, zero, suc, ◌+◌, ◌/◌, ◌%◌, ◌^◌, ◌<◌}
 use native.Mathlib.Nat.{div-one, zero-div, div-div-eq-div-mul, pow-succ'}
 use native.Mathlib.Omega.{arith}
 use mathlib.Core.Path.{◌≡◌, refl, sym, ap, ◌∙◌}
@@ -51,8 +51,3 @@ raised-fits (suc n) w (suc k) fits inside down =
     let raised = pow-succ' 2 k in
     let half = raised-fits n (w / 2) k (omega (arith, twice, fits)) (omega arith) (sym (digit-suc w k) ∙ down) in
     omega (arith, twice, raised, half)
-
-pub shifted : (k : ℕ) → k < 16 → 1 * 2 ^ k % 65536 ≡ 2 ^ k
-shifted k inside =
-    let fits = raised-fits 16 0 k (omega arith) inside (no_digit k) in
-    omega (arith, fits)

@@ -5,11 +5,7 @@ ghost use Rattle.flags.specs.Flags.{digit, Raised};
 pub fn clear(flags: &mut [u16])
     ensures { flags.new ≡ replicate (length flags.old) 0 }
 {
-    let mut i = 0;
-    while i < flags.len() {
-        flags[i] = 0;
-        i = i + 1;
-    }
+    flags.fill(0);
 }
 
 fn is_up(place: u16, bit: u16) -> bool

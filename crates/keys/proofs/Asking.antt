@@ -2,27 +2,17 @@
 use mathlib.Core.Bool.{Bool, true, false}
 use mathlib.Core.Option.{none, some}
 use mathlib.Core.Path.{◌≡◌, refl, sym, ◌∙◌}
-use lib.Ieee.{Float, nan, inf, fin, lt, neg, div, of_bits, binary32}
+use lib.Ieee.{Float, nan, inf, fin}
+use Rattle.std.specs.Float.{float_is_finite}
 use Rattle.clip.specs.Keys.{finite, translation_fails, orientation_fails, pose_asked, weight_asked}
 use Rattle.records.specs.declared.pose.Pose.{Pose}
 
--- 1.0 / 0.0, with the bits of both.
-abbrev infinity : Float
-infinity = div binary32 (of_bits binary32 1065353216) (of_bits binary32 0)
-
--- A float is finite exactly between the infinities.
-pub below_both : (x : Float) → lt x infinity ≡ true → lt (neg infinity) x ≡ finite x
-unfolding lt neg div of_bits
-below_both nan e = refl
-below_both (inf true) e = refl
-below_both (inf false) e = sym e
-below_both (fin s m d) e = refl
-
-pub not-below : (x : Float) → lt x infinity ≡ false → false ≡ finite x
-unfolding lt div of_bits
-not-below nan e = refl
-not-below (inf s) e = refl
-not-below (fin s m d) e = sym e
+-- What the library tells of a float.
+pub finite_is : (x : Float) → float_is_finite x ≡ finite x
+unfolding float_is_finite
+finite_is nan = refl
+finite_is (inf s) = refl
+finite_is (fin s m e) = refl
 
 module _ (p : Pose) (t o : Bool) where
   pub refused-12 : t ≡ translation_fails p → t ≡ true → some 12 ≡ pose_asked p

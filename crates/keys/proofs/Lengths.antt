@@ -1,6 +1,5 @@
 -- How long a key is, and the parts that it is written in. Assumes nothing.
 use Prim.Native.Nat.{ℕ, ◌+◌, ◌≤◌}
-use native.Mathlib.Nat.{add_assoc}
 use native.Mathlib.Omega.{arith}
 use mathlib.Core.Bool.{Bool, true, false, cond}
 use mathlib.Core.List.{List, [], ◌∷◌, ◌++◌, map, append_assoc, append-nil}
@@ -80,21 +79,21 @@ module _ (s : List ℕ) (at frame : ℕ) where
     bone-parts pe ce be =
         let byte-is : byte ≡ map_byte bone_groups (bone_fields (bone_body s at)) = be ∙ rw pe (bone-map-is s at) in
         let a = cond p.translation [] (bytes_at s (at + 16) 12) in
-        let b = cond p.orientation [] (bytes_at s (at + 16 + 12) 16) in
+        let b = cond p.orientation [] (bytes_at s (at + 28) 16) in
         let c = cond p.curves [] (three_curves cs) in
         let d = cond p.rotation [] (get_or cs 3 []) in
-        regroup (little_endian 4 frame) byte a b c d ∙ rw (byte-is, pe, ce, first-curves s at, fourth-curve s at, add_assoc at 16 12)
+        regroup (little_endian 4 frame) byte a b c d ∙ rw (byte-is, pe, ce, first-curves s at, fourth-curve s at)
 
     -- Room for the key is room for its parts.
     pub bone-room : (place : ℕ) (old : List ℕ) → p ≡ bone_plain (bone_body s at) → cs ≡ map clamped (curves_at s at) → byte ≡ standing 1 2 4 8 p → Room place (bone_key_bytes s at frame) old → Room place (head_bytes frame byte ++ pose_bytes p s at ++ curve_bytes p cs) old
     bone-room place old pe ce be room = rw (bone-parts pe ce be) room
 
   module _ (plain : Bool) (byte : ℕ) where
-    pub morph-parts : plain ≡ plain_in morph_groups (morph_fields (morph_body s at)) 0 → byte ≡ cond plain 0 1 → head_bytes frame byte ++ cond plain [] (bytes_at s at 4) ≡ morph_key_bytes s at frame
-    unfolding key_bytes present morph_body
+    pub morph-parts : plain ≡ plain_in morph_groups (morph_fields (morph_body s at)) 0 → byte ≡ cond plain 0 1 → head_bytes frame byte ++ cond plain [] (morph_body s at) ≡ morph_key_bytes s at frame
+    unfolding key_bytes present
     morph-parts pe be =
         let byte-is : byte ≡ map_byte morph_groups (morph_fields (morph_body s at)) = be ∙ rw pe (morph-map-is s at) in
         simp (append_assoc, append-nil) (rw (byte-is, pe))
 
-    pub morph-room : (place : ℕ) (old : List ℕ) → plain ≡ plain_in morph_groups (morph_fields (morph_body s at)) 0 → byte ≡ cond plain 0 1 → Room place (morph_key_bytes s at frame) old → Room place (head_bytes frame byte ++ cond plain [] (bytes_at s at 4)) old
+    pub morph-room : (place : ℕ) (old : List ℕ) → plain ≡ plain_in morph_groups (morph_fields (morph_body s at)) 0 → byte ≡ cond plain 0 1 → Room place (morph_key_bytes s at frame) old → Room place (head_bytes frame byte ++ cond plain [] (morph_body s at)) old
     morph-room place old pe be room = rw (morph-parts pe be) room

@@ -2,11 +2,11 @@
 use Prim.Native.Nat.{ℕ, ◌+◌, ◌≤◌}
 use native.Mathlib.Nat.{add_assoc, add-zero, zero-add}
 use native.Mathlib.Omega.{arith}
-use mathlib.Core.Bool.{Bool, true, false, cond}
+use mathlib.Core.Bool.{Bool, true, cond}
 use mathlib.Core.List.{List, [], ◌++◌, append_assoc, append-nil}
 use mathlib.Core.Path.{◌≡◌, sym, ap, ◌∙◌}
 use lib.ListN.{length, take, drop, length-append, length-drop, take-append-drop}
-use lib.Seq.{length-take-le, take_at, drop_at, take-append-le, take-take, drop-append-add, drop-drop, sets, sets-eq}
+use lib.Seq.{length-take-le, take_at, drop_at, take-append-le, take-take, drop-append-add, drop-drop}
 use Rattle.strip.specs.Call.{over}
 use Rattle.strip.specs.Keys.{little_endian}
 use Rattle.strip.proofs.Bytes.{length-little_endian}
@@ -66,11 +66,6 @@ placed-before place xs ys old fits =
     ∙ ap (λ (zs : List ℕ). zs ++ rest) (append_assoc (take place old) xs ys)
     ∙ ap (λ (zs : List ℕ). take place old ++ (xs ++ ys) ++ zs) behind)
 
--- Stores one behind the other.
-pub stored : (vs old : List ℕ) (place : ℕ) → place + length vs ≤ length old → sets old place vs ≡ placed place vs old
-unfolding placed
-stored vs old place fits = sets-eq vs old place fits
-
 module _ (place : ℕ) (xs ys old : List ℕ) (room : Room place (xs ++ ys) old) where
   pub room-front : Room place xs old
   room-front = let sum = length-append xs ys in omega (arith, sum)
@@ -129,16 +124,9 @@ module _ (place : ℕ) (xs ys zs old : List ℕ) (room : Room place (xs ++ ys ++
 pub wrote_none : (place : ℕ) (old : List ℕ) → Wrote place [] old place old
 wrote_none place old = record { ends = omega arith; leaves = sym (placed-none place old) }
 
--- A field whose group is plain or not.
-module _ (plain : Bool) (place : ℕ) (field old : List ℕ) where
-  pub left_out : plain ≡ true → Wrote place (cond plain [] field) old place old
-  left_out e = rw e (wrote_none place old)
-
-  pub room-kept : plain ≡ false → Room place (cond plain [] field) old → Room place field old
-  room-kept e room = rw e at room
-
-  pub kept : (end : ℕ) (new : List ℕ) → plain ≡ false → Wrote place field old end new → Wrote place (cond plain [] field) old end new
-  kept end new e w = rw e w
+-- A field whose group is plain.
+pub left_out : (plain : Bool) (place : ℕ) (field old : List ℕ) → plain ≡ true → Wrote place (cond plain [] field) old place old
+left_out plain place field old e = rw e (wrote_none place old)
 
 -- A number in its bytes.
 pub number-wrote : (width place n : ℕ) (old new : List ℕ) → new ≡ placed place (little_endian width n) old → Wrote place (little_endian width n) old (place + width) new

@@ -1,10 +1,10 @@
 -- What each answer says in document 01's terms.
-use Rattle.std.specs.Prelude.{ℕ}
+use Rattle.std.specs.Prelude.{ℕ, Result, Ok, Err}
 use Rattle.std.proofs.Math.Option.{Option, none, some}
-use Rattle.keys.specs.declared.pose.Asked.{Asked}
+use Rattle.keys.specs.declared.pose.PoseFault.{PoseFault}
 
 -- The number of the refusal that a pose meets.
-abbrev pub asked_read : Asked → Option ℕ
-asked_read Asked.Fine = none
-asked_read Asked.Translation = some 12
-asked_read Asked.Orientation = some 13
+abbrev pub asked_read : Result (Unit {0}) PoseFault → Option ℕ
+asked_read (Ok v) = none
+asked_read (Err PoseFault.Translation) = some 12
+asked_read (Err PoseFault.Orientation) = some 13

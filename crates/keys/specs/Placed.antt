@@ -1,6 +1,6 @@
 -- Bytes that are written into an output, and what the rest of it is then. Definitions only.
-use Rattle.std.specs.Prelude.{ℕ, ◌+◌, ◌*◌, ◌≤◌, Bool, cond, List, [], ◌∷◌, ◌++◌, ◌≡◌, length, take, drop, get_or}
-use Rattle.clip.specs.Section.{bone_body, morph_body, bytes_at}
+use Rattle.std.specs.Prelude.{ℕ, ◌+◌, ◌≤◌, cond, List, [], ◌∷◌, ◌++◌, ◌≡◌, length, take, drop, get_or}
+use Rattle.clip.specs.Section.{bone_body, morph_body}
 use Rattle.strip.specs.Plain.{bone_groups, bone_fields, morph_groups, morph_fields}
 use Rattle.strip.specs.Keys.{little_endian, key_bytes}
 use Rattle.keys.specs.declared.plain.BonePlain.{BonePlain}
@@ -24,16 +24,12 @@ bone_key_bytes s at frame = key_bytes bone_groups bone_fields (record { frame = 
 abbrev pub morph_key_bytes : List ℕ → ℕ → ℕ → List ℕ
 morph_key_bytes s at frame = key_bytes morph_groups morph_fields (record { frame = frame; body = morph_body s at })
 
--- The parts of a key as they are written: frame and map byte; 12 bytes and those behind them, each group unless it is plain; so the pose;
--- the curves.
+-- The parts of a key as they are written: frame and map byte; the pose and the curves, each group unless it is plain.
 abbrev pub head_bytes : ℕ → ℕ → List ℕ
 head_bytes frame map = little_endian 4 frame ++ map ∷ []
 
-abbrev pub group_bytes : Bool → Bool → List ℕ → ℕ → ℕ → List ℕ
-group_bytes first second s from more = cond first [] (bytes_at s from 12) ++ cond second [] (bytes_at s (from + 12) (4 * more))
-
 abbrev pub pose_bytes : BonePlain → List ℕ → ℕ → List ℕ
-pose_bytes p s at = group_bytes p.translation p.orientation s (at + 16) 4
+pose_bytes p s at = cond p.translation [] (bone_body s at).translation ++ cond p.orientation [] (bone_body s at).orientation
 
 abbrev pub three_curves : List (List ℕ) → List ℕ
 three_curves curves = get_or curves 0 [] ++ get_or curves 1 [] ++ get_or curves 2 []

@@ -9,7 +9,7 @@ ghost use Rattle.strip.specs.Plain.{one, plain_curve, plain_bytes, clamped, bone
 ghost use Rattle.strip.specs.Keys.{map_byte};
 ghost use Rattle.keys.specs.Plain.{plain_in, bone_plain, standing};
 
-use crate::pose;
+use crate::body::{BoneBody, MorphBody};
 use binary::numbers;
 use records::pose::Pose;
 
@@ -57,30 +57,6 @@ fn plain_curves(s: &[u8], at: usize) -> bool
     plain_curve(s, at) & plain_curve(s, at + 4) & plain_curve(s, at + 8)
 }
 
-pub fn bone_plain(s: &[u8], at: usize) -> BonePlain
-    requires { at + 44 ≤ length s.now }
-    ensures { result ≡ bone_plain (bone_body s.now at) }
-{
-    let pose = pose::pose_at(s, at);
-    let translation = plain_translation(pose);
-    let orientation = plain_orientation(pose);
-    let curves = plain_curves(s, at);
-    let rotation = plain_curve(s, at + 12);
-    BonePlain {
-        translation,
-        orientation,
-        curves,
-        rotation,
-    }
-}
-
-pub fn morph_plain(s: &[u8], at: usize) -> bool
-    requires { at + 4 ≤ length s.now }
-    ensures { result ≡ plain_in morph_groups (morph_fields (morph_body s.now at)) 0 }
-{
-    pose::weight_at(s, at) == 0.0
-}
-
 // `n`, unless the group is plain.
 pub fn unless(plain: bool, n: u8) -> u8
     ensures { result ≡ cond plain 0 n }
@@ -88,29 +64,55 @@ pub fn unless(plain: bool, n: u8) -> u8
     if plain { 0 } else { n }
 }
 
-// The sum of one number for each group that is not plain: of the bits, the map byte; of the widths, how many bytes follow it.
-#[tactic(auto, using(crate::proofs::Groups::at_most))]
-pub fn standing(plain: BonePlain, translation: u8, orientation: u8, curves: u8, rotation: u8) -> u8
-    requires { translation + orientation + curves + rotation < 256 }
-    ensures { result ≡ standing translation orientation curves rotation plain }
-{
-    let a = unless(plain.translation, translation);
-    let b = unless(plain.orientation, orientation);
-    let c = unless(plain.curves, curves);
-    let d = unless(plain.rotation, rotation);
-    a + b + c + d
+impl BonePlain {
+    // The sum of one number for each group that is not plain: of the bits, the map byte; of the widths, how many bytes follow it.
+    #[tactic(auto, using(crate::proofs::Groups::at_most))]
+    pub fn standing(self, translation: u8, orientation: u8, curves: u8, rotation: u8) -> u8
+        requires { translation + orientation + curves + rotation < 256 }
+        ensures { result ≡ standing translation orientation curves rotation self }
+    {
+        let a = unless(self.translation, translation);
+        let b = unless(self.orientation, orientation);
+        let c = unless(self.curves, curves);
+        let d = unless(self.rotation, rotation);
+        a + b + c + d
+    }
 }
 
-pub fn bone_map(s: &[u8], at: usize) -> u8
-    requires { at + 44 ≤ length s.now }
-    ensures { result ≡ map_byte bone_groups (bone_fields (bone_body s.now at)) }
-{
-    standing(bone_plain(s, at), 1, 2, 4, 8)
+impl<'a> BoneBody<'a> {
+    pub fn plain(&self) -> BonePlain
+        ensures { result ≡ bone_plain (bone_body self.now.section.now self.now.at) }
+    {
+        let pose = self.pose();
+        let translation = plain_translation(pose);
+        let orientation = plain_orientation(pose);
+        let curves = plain_curves(self.section, self.at);
+        let rotation = plain_curve(self.section, self.at + 12);
+        BonePlain {
+            translation,
+            orientation,
+            curves,
+            rotation,
+        }
+    }
+
+    pub fn map(&self) -> u8
+        ensures { result ≡ map_byte bone_groups (bone_fields (bone_body self.now.section.now self.now.at)) }
+    {
+        self.plain().standing(1, 2, 4, 8)
+    }
 }
 
-pub fn morph_map(s: &[u8], at: usize) -> u8
-    requires { at + 4 ≤ length s.now }
-    ensures { result ≡ map_byte morph_groups (morph_fields (morph_body s.now at)) }
-{
-    unless(morph_plain(s, at), 1)
+impl<'a> MorphBody<'a> {
+    pub fn plain(&self) -> bool
+        ensures { result ≡ plain_in morph_groups (morph_fields (morph_body self.now.section.now self.now.at)) 0 }
+    {
+        self.weight() == 0.0
+    }
+
+    pub fn map(&self) -> u8
+        ensures { result ≡ map_byte morph_groups (morph_fields (morph_body self.now.section.now self.now.at)) }
+    {
+        unless(self.plain(), 1)
+    }
 }

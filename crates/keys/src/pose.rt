@@ -1,6 +1,6 @@
 // What is asked of a key's body (document 01, "Build order"). A pose is a struct of seven f32 fields, passed by value from the
 // record reader to the finite and length checks (document 01, "Forms by place in the code").
-ghost use Rattle.std.specs.Prelude.{◌≡◌, ◌+◌, ◌≤◌, length, ◌&&◌};
+ghost use Rattle.std.specs.Prelude.{◌≡◌, ◌&&◌};
 ghost use Rattle.clip.specs.Keys.{
   finite,
   squared_length,
@@ -8,48 +8,25 @@ ghost use Rattle.clip.specs.Keys.{
   orientation_fails,
   pose_asked,
   posed,
-  float_at,
 };
-ghost use Rattle.clip.specs.Section.{bone_body, morph_body};
+ghost use Rattle.clip.specs.Section.{bone_body};
 ghost use Rattle.keys.specs.Answers.{asked_read};
 
-use crate::words;
-use binary::numbers;
-use records::pose;
-use records::pose::{Pose, PoseBits};
+use crate::body::BoneBody;
+use records::pose::Pose;
 
-// Nothing against a pose, or 12 or 13; specs/Answers.antt gives the numbers.
+// What is against a pose, 12 or 13; specs/Answers.antt gives the numbers.
 #[derive(Clone, Copy)]
-pub enum Asked {
-    Fine,
+pub enum PoseFault {
     Translation,
     Orientation,
 }
 
-pub fn pose_at(s: &[u8], at: usize) -> Pose
-    requires { at + 44 ≤ length s.now }
-    ensures { result ≡ posed (bone_body s.now at) }
-{
-    let translation = words::three_words(s, at + 16);
-    let orientation = words::four_words(s, at + 28);
-    pose::pose_of(PoseBits {
-        translation,
-        orientation,
-    })
-}
-
-pub fn weight_at(s: &[u8], at: usize) -> f32
-    requires { at + 4 ≤ length s.now }
-    ensures { result ≡ float_at (morph_body s.now at) 0 }
-{
-    numbers::float(numbers::u32_at(s, at))
-}
-
+#[tactic(auto, using(crate::proofs::Asking::finite_is))]
 pub fn finite(x: f32) -> bool
     ensures { result ≡ finite x }
 {
-    let infinity: f32 = 1.0 / 0.0;
-    if x < infinity { -infinity < x } else { false }
+    x.is_finite()
 }
 
 fn finite3(x: f32, y: f32, z: f32) -> bool
@@ -58,12 +35,14 @@ fn finite3(x: f32, y: f32, z: f32) -> bool
     finite(x) & finite(y) & finite(z)
 }
 
+#[tactic(auto, unfolding(clip::specs::Keys::squared_length))]
 fn squared_length(x: f32, y: f32, z: f32, w: f32) -> f32
     ensures { result ≡ squared_length x y z w }
 {
     ((x * x + y * y) + z * z) + w * w
 }
 
+#[tactic(auto, unfolding(clip::specs::Keys::translation_fails))]
 fn translation_fails(pose: Pose) -> bool
     ensures { result ≡ translation_fails pose }
 {
@@ -82,21 +61,22 @@ fn orientation_fails(pose: Pose) -> bool
     !all | (squared_length(x, y, z, w) <= 1.1920929e-7)
 }
 
-pub fn pose_asked(pose: Pose) -> Asked
+pub fn pose_asked(pose: Pose) -> Result<(), PoseFault>
     ensures { asked_read result ≡ pose_asked pose }
 {
     if translation_fails(pose) {
-        return Asked::Translation;
+        return Err(PoseFault::Translation);
     }
     if orientation_fails(pose) {
-        return Asked::Orientation;
+        return Err(PoseFault::Orientation);
     }
-    Asked::Fine
+    Ok(())
 }
 
-pub fn bone_asked(s: &[u8], at: usize) -> Asked
-    requires { at + 44 ≤ length s.now }
-    ensures { asked_read result ≡ pose_asked (posed (bone_body s.now at)) }
-{
-    pose_asked(pose_at(s, at))
+impl<'a> BoneBody<'a> {
+    pub fn asked(&self) -> Result<(), PoseFault>
+        ensures { asked_read result ≡ pose_asked (posed (bone_body self.now.section.now self.now.at)) }
+    {
+        pose_asked(self.pose())
+    }
 }

@@ -25,8 +25,7 @@ use Rattle.chains.specs.Lookup.{Ordered}
 use Rattle.track_keys.specs.Tracks.{test_at}
 use Rattle.chains.specs.declared.block.Block.{Block}
 use Rattle.marks.specs.Marks.{marked}
-use Rattle.marks.specs.Rising.{Behind, OneMarked, ChainMarked}
-use Rattle.marks.specs.declared.rising.Rising.{Rising}
+use Rattle.marks.specs.Rising.{Behind, OneMarked}
 use Rattle.marks.proofs.Marking.{length_marked}
 
 marked-snoc : (mark : ℕ) (ps : List ℕ) (p : ℕ) (xs : List ℕ) → marked mark (ps ++ p ∷ []) xs ≡ set (marked mark ps xs) p mark
@@ -63,64 +62,55 @@ module _ (s : List ℕ) (b : Block) (track : ℕ) where
       let rest = records-pass ps ((links s b).at p).frame to (((links s b).at p).frame ∷ before) f.2 (upto-more from p before f.0 u) (λ q inside. new q (true-or (eqb q p) (member q ps) inside)) in
       rw (first, unseen, f.1, rest)
 
-  -- The records so far, linked from the initial record on.
-  pub record Seeing (marks₀ marks : List ℕ) (expected link frame n : ℕ) : Type 0 where
-    pub seen : List ℕ
-    pub linked : Linked (links s b) track ((links s b).initial track).next seen expected link
-    pub fine : Fine ((links s b).initial track).frame seen frame
-    pub many : length seen ≡ n
-    pub are : marks ≡ marked (track + 1) seen marks₀
+-- The records so far, linked from the initial record on.
+pub record Seeing (s : List ℕ) (b : Block) (track : ℕ) (marks₀ marks : List ℕ) (expected link frame n : ℕ) : Type 0 where
+  pub seen : List ℕ
+  pub linked : Linked (links s b) track ((links s b).initial track).next seen expected link
+  pub fine : Fine s b track ((links s b).initial track).frame seen frame
+  pub many : length seen ≡ n
+  pub are : marks ≡ marked (track + 1) seen marks₀
 
-  module _ (slots : List ℕ) (ordered : Ordered s b slots) (is-track : track < b.initials.count) (marks₀ : List ℕ) where
-    pub begins : (link frame : ℕ) → link ≡ ((links s b).initial track).next → frame ≡ ((links s b).initial track).frame → Seeing marks₀ marks₀ track link frame 0
-    begins link frame il if = record { seen = []; linked = (refl, sym il); fine = sym if; many = refl; are = refl }
+pub begins : (s : List ℕ) (b : Block) (track : ℕ) (marks : List ℕ) {link frame : ℕ} → link ≡ ((links s b).initial track).next → frame ≡ ((links s b).initial track).frame → Seeing s b track marks marks track link frame 0
+begins s b track marks il if = record { seen = []; linked = (refl, sym il); fine = sym if; many = refl; are = refl }
 
-    module _ (marks : List ℕ) (expected link frame n : ℕ) (g : Seeing marks₀ marks expected link frame n) where
-      pub same_length : length marks ≡ length marks₀
-      same_length = ap length g.are ∙ length_marked (track + 1) g.seen marks₀
+module _ {s : List ℕ} {b : Block} {slots : List ℕ} (ordered : Ordered s b slots) {track : ℕ} (is-track : track < b.initials.count) {marks₀ marks : List ℕ} {expected link frame n : ℕ} (g : Seeing s b track marks₀ marks expected link frame n) where
+  pub same_length : length marks ≡ length marks₀
+  same_length = ap length g.are ∙ length_marked (track + 1) g.seen marks₀
 
-      module _ (on : link ≡ 0 → ⊥) (p : ℕ) (at : record_of (links s b) link ≡ some p) where
-        pub inside : p < b.records.count
-        inside = (record_of-found (links s b) link p at).0
+  module _ {p : ℕ} (at : some p ≡ record_of (links s b) link) where
+    pub inside : p < b.records.count
+    inside = (record_of-found (links s b) link p (sym at)).0
 
-        module _ (h : Behind s b track p expected frame) where
-          extended : Linked (links s b) track ((links s b).initial track).next (g.seen ++ p ∷ []) link ((links s b).at p).next
-          extended = let is = record_of-found (links s b) link p at in one_more (links s b) g.seen track ((links s b).initial track).next expected link p g.linked on is.0 is.1 h.previous
+    module _ (on : link ≡ 0 → ⊥) (h : Behind s b track p expected frame) where
+      extended : Linked (links s b) track ((links s b).initial track).next (g.seen ++ p ∷ []) link ((links s b).at p).next
+      extended = let is = record_of-found (links s b) link p (sym at) in one_more (links s b) g.seen track ((links s b).initial track).next expected link p g.linked on is.0 is.1 h.previous
 
-          pub room : n < b.records.count
-          room =
-              let most = few (links s b) ordered.indexed track is-track ((links s b).initial track).next (g.seen ++ p ∷ []) link ((links s b).at p).next extended in
-              let sum = length-append g.seen (p ∷ []) in
-              let many = g.many in
-              omega (arith, most, sum, many)
+      pub room : n < b.records.count
+      room =
+          let most = few (links s b) ordered.indexed track is-track ((links s b).initial track).next (g.seen ++ p ∷ []) link ((links s b).at p).next extended in
+          omega (arith, most, length-append g.seen (p ∷ []), g.many)
 
-          pub goes_on : (next later : ℕ) → next ≡ ((links s b).at p).next → later ≡ ((links s b).at p).frame → Seeing marks₀ (set marks p (track + 1)) link next later (n + 1)
-          goes_on next later to at-frame =
-              let sum = length-append g.seen (p ∷ []) in
-              let many = g.many in
-              record {
-                seen = g.seen ++ p ∷ [];
-                linked = rw to extended;
-                fine = rw at-frame (fine_more g.seen ((links s b).initial track).frame frame p expected g.fine h);
-                many = omega (arith, sum, many);
-                are = ap (λ (xs : List ℕ). set xs p (track + 1)) g.are ∙ sym (marked-snoc (track + 1) g.seen p marks₀);
-              }
-
-      pub ends : key_meets s b.kind track ((links s b).initial track).frame ((links s b).initial track).body false ≡ none → link ≡ 0 → OneMarked s b track marks₀ marks n
-      unfolding chain_of track_refusal key_test member
-      ends initial zero-link =
-          let is : chain (kind_of b.kind) (links s b) track ≡ answered g.seen = walk_ends (kind_of b.kind) (links s b) ordered.indexed track is-track g.seen expected link g.linked zero-link in
-          let chain-is : chain_of (kind_of b.kind) (links s b) track ≡ g.seen = ap positions is in
-          let rest = records-pass g.seen ((links s b).initial track).frame frame (((links s b).initial track).frame ∷ []) g.fine
-          (λ later less. rw (ne_eqb later ((links s b).initial track).frame (λ e. omega (arith, e, less))))
-          (λ p inside. never-shared (kind_of b.kind) (links s b) ordered.indexed track is-track p (subst (λ (ps : List ℕ). member p ps ≡ true) (sym chain-is) inside)) in
+      pub goes_on : {next later : ℕ} → next ≡ ((links s b).at p).next → later ≡ ((links s b).at p).frame → Seeing s b track marks₀ (set marks p (track + 1)) link next later (n + 1)
+      goes_on to at-frame =
           record {
-            passes = rw (chain-is, is, initial) rest;
-            ends = is ∙ ap answered (sym chain-is);
-            length = sym g.many ∙ ap length (sym chain-is);
-            marks = g.are ∙ ap (λ (ps : List ℕ). marked (track + 1) ps marks₀) (sym chain-is);
+            seen = g.seen ++ p ∷ [];
+            linked = rw to extended;
+            fine = rw at-frame (fine_more s b track g.seen ((links s b).initial track).frame frame p expected g.fine h);
+            many = omega (arith, length-append g.seen (p ∷ []), g.many);
+            are = ap (λ (xs : List ℕ). set xs p (track + 1)) g.are ∙ sym (marked-snoc (track + 1) g.seen p marks₀);
           }
 
--- What a call tells of one chain.
-pub told : (s : List ℕ) (b : Block) (track : ℕ) (before after : List ℕ) (r : Rising) (n : ℕ) → ChainMarked s b track before after r → r ≡ Rising.Links n → OneMarked s b track before after n
-told s b track before after r n tells is = subst (λ (k : Rising). ChainMarked s b track before after k) is tells
+  pub ends : none ≡ key_meets s b.kind track ((links s b).initial track).frame ((links s b).initial track).body false → link ≡ 0 → OneMarked s b track marks₀ marks n
+  unfolding chain_of track_refusal key_test member
+  ends initial zero_link =
+      let is : chain (kind_of b.kind) (links s b) track ≡ answered g.seen = walk_ends (kind_of b.kind) (links s b) ordered.indexed track is-track g.seen expected link g.linked zero_link in
+      let chain-is : chain_of (kind_of b.kind) (links s b) track ≡ g.seen = ap positions is in
+      let rest = records-pass s b track g.seen ((links s b).initial track).frame frame (((links s b).initial track).frame ∷ []) g.fine
+      (λ later less. rw (ne_eqb later ((links s b).initial track).frame (λ e. omega (arith, e, less))))
+      (λ p inside. never-shared (kind_of b.kind) (links s b) ordered.indexed track is-track p (subst (λ (ps : List ℕ). member p ps ≡ true) (sym chain-is) inside)) in
+      record {
+        passes = rw (chain-is, is, sym initial) rest;
+        ends = is ∙ ap answered (sym chain-is);
+        length = sym g.many ∙ ap length (sym chain-is);
+        marks = g.are ∙ ap (λ (ps : List ℕ). marked (track + 1) ps marks₀) (sym chain-is);
+      }

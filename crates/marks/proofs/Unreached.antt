@@ -26,47 +26,42 @@ module _ {B : Type 0} (kind : Kind) (r : Records B) where
 
   -- The first p records are counted.
   pub record Counted (cut idle p : ℕ) : Type 0 where
-    pub within : p ≤ r.additional
     pub disconnected-so-far : cut ≡ number p cut_at
     pub loose-so-far : idle ≡ number p loose_at
 
 module _ {B : Type 0} {kind : Kind} {r : Records B} where
   pub starts : Counted kind r 0 0 0
   unfolding number
-  starts = record { within = omega arith; disconnected-so-far = refl; loose-so-far = refl }
+  starts = record { disconnected-so-far = refl; loose-so-far = refl }
 
   module _ {cut idle p : ℕ} (c : Counted kind r cut idle p) where
     pub below : (cut ≤ p) × (idle ≤ p)
     below = (rw c.disconnected-so-far (number-le p (cut_at kind r)), rw c.loose-so-far (number-le p (loose_at kind r)))
 
-    pub done : r.additional ≤ p → (cut ≡ disconnected kind r) × (idle ≡ loose kind r)
+    pub done : p ≡ r.additional → (cut ≡ disconnected kind r) × (idle ≡ loose kind r)
     unfolding disconnected loose
-    done all =
-        let within = c.within in
-        let same : p ≡ r.additional = omega (arith, all, within) in
+    done same =
         (subst (λ (k : ℕ). cut ≡ number k (cut_at kind r)) same c.disconnected-so-far, subst (λ (k : ℕ). idle ≡ number k (loose_at kind r)) same c.loose-so-far)
 
-    module _ (inside : p < r.additional) where
-      more : (a b : Bool) → reached kind r p ≡ a → both_links_zero kind r p ≡ b → (cut' idle' : ℕ) → cut' ≡ cut + cond (not a && not b) 1 0 → idle' ≡ idle + cond (not a && b) 1 0 → Counted kind r cut' idle' (p + 1)
-      more a b ea eb cut' idle' ec ei =
-          let before-cut = c.disconnected-so-far in
-          let before-idle = c.loose-so-far in
-          let more_cut = number_more p (cut_at kind r) (not a && not b) (rw (ea, eb)) in
-          let more-idle = number_more p (loose_at kind r) (not a && b) (rw (ea, eb)) in
-          record {
-            within = omega (arith, inside);
-            disconnected-so-far = ec ∙ rw before-cut (sym more_cut);
-            loose-so-far = ei ∙ rw before-idle (sym more-idle);
-          }
+    more : (a b : Bool) → reached kind r p ≡ a → both_links_zero kind r p ≡ b → (cut' idle' : ℕ) → cut' ≡ cut + cond (not a && not b) 1 0 → idle' ≡ idle + cond (not a && b) 1 0 → Counted kind r cut' idle' (p + 1)
+    more a b ea eb cut' idle' ec ei =
+        let before-cut = c.disconnected-so-far in
+        let before-idle = c.loose-so-far in
+        let more_cut = number_more p (cut_at kind r) (not a && not b) (rw (ea, eb)) in
+        let more-idle = number_more p (loose_at kind r) (not a && b) (rw (ea, eb)) in
+        record {
+          disconnected-so-far = ec ∙ rw before-cut (sym more_cut);
+          loose-so-far = ei ∙ rw before-idle (sym more-idle);
+        }
 
-      pub passes : reached kind r p ≡ true → Counted kind r cut idle (p + 1)
-      passes is = more true (both_links_zero kind r p) is refl cut idle (omega arith) (omega arith)
+    pub passes : reached kind r p ≡ true → Counted kind r cut idle (p + 1)
+    passes is = more true (both_links_zero kind r p) is refl cut idle (omega arith) (omega arith)
 
-      pub takes : reached kind r p ≡ false → both_links_zero kind r p ≡ true → Counted kind r cut (idle + 1) (p + 1)
-      takes is zeros = more false true is zeros cut (idle + 1) (omega arith) refl
+    pub takes : reached kind r p ≡ false → both_links_zero kind r p ≡ true → Counted kind r cut (idle + 1) (p + 1)
+    takes is zeros = more false true is zeros cut (idle + 1) (omega arith) refl
 
-      pub leaves : reached kind r p ≡ false → both_links_zero kind r p ≡ false → Counted kind r (cut + 1) idle (p + 1)
-      leaves is zeros = more false false is zeros (cut + 1) idle refl (omega arith)
+    pub leaves : reached kind r p ≡ false → both_links_zero kind r p ≡ false → Counted kind r (cut + 1) idle (p + 1)
+    leaves is zeros = more false false is zeros (cut + 1) idle refl (omega arith)
 
 -- Where as many links are followed as there are records, none is left.
 pub all-reached : {B : Type 0} (kind : Kind) (r : Records B) → Indexed r → ((t : ℕ) → t < r.tracks → chain kind r t ≡ answered (chain_of kind r t)) → links_followed kind r ≡ r.additional → (disconnected kind r ≡ 0) × (loose kind r ≡ 0)

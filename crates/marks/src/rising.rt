@@ -1,103 +1,81 @@
 // The tracks as MMD writes them: chains that end, frames that rise and keys that meet nothing. One pass finds that out and makes the marks.
 // Where it finds anything else it stops, and what is met first is looked for again in document 01's order.
 ghost use Rattle.std.specs.Prelude.{true, ◌≡◌, ℕ, ◌<◌, length, replicate};
-ghost use Rattle.chains.specs.Block.{Fits, links};
-ghost use Rattle.chains.specs.Lookup.{Ordered};
 ghost use Rattle.marks.specs.Rising.{Behind, ChainMarked, TracksMarked};
 
-use chains::block::Block;
-use chains::fault::Met;
-use chains::lookup::Found;
-use chains::{block, lookup, near};
+use chains::block::Records;
+use chains::lookup::Indexed;
+use chains::near::Near;
 use flags::bits;
 use track_keys::{key, ready};
 
-// How many links were followed, if nothing else was found.
-#[derive(Clone, Copy)]
-pub enum Rising {
-    Links(usize),
-    Otherwise,
-}
-
 // Whether a record stands rightly behind a key: its previous link, a later frame, and a key that meets nothing.
-fn behind(s: &[u8], b: Block, p: usize, expected: u32, frame: u32) -> bool
-    requires fits { Fits s.now b }
-    requires p_lt_count { p < b.records.count }
-    ensures { result ≡ true → (track : ℕ) → Behind s.now b track p expected frame }
+fn behind(records: &Records, p: usize, expected: u32, frame: u32) -> bool
+    requires { p < records.now.block.records.count }
+    ensures { result ≡ true → (track : ℕ) → Behind records.now.section.now records.now.block track p expected frame }
 {
-    if block::previous_at(s, b, p) != expected {
+    if records.previous_at(p) != expected {
         return false;
     }
-    let here = block::frame_at(s, b, p);
+    let here = records.frame_at(p);
     if here <= frame {
         return false;
     }
-    let body = block::body_at(s, b, p);
-    key::fine(s, b, here, body)
+    let body = records.body_at(p);
+    key::fine(records, here, body)
 }
 
-fn mark_chain(s: &[u8], b: Block, slots: &[u16], track: usize, marks: &mut [u16]) -> Rising
-    requires ordered { Ordered s.now b slots.now }
-    requires track_lt_count { track < b.initials.count }
-    requires marks_len { length marks.old ≡ b.records.count }
-    ensures chain_marked { ChainMarked s.now b track marks.old marks.new result }
+// How many links were followed, if nothing else was found. The chain may not end, so its links are looked up and tested one by one.
+fn mark_chain(indexed: &Indexed, track: usize, marks: &mut [u16]) -> Option<usize>
+    requires track_lt_count { track < indexed.now.records.block.initials.count }
+    requires marks_len { length marks.old ≡ indexed.now.records.block.records.count }
+    ensures chain_marked { ChainMarked indexed.now.records.section.now indexed.now.records.block track marks.old marks.new result }
     ensures marks_len_unchanged { length marks.new ≡ length marks.old }
 {
-    match ready::initial_key(s, b, track) {
-        Met::Refused(_) => return Rising::Otherwise,
-        Met::Nothing => (),
+    let records = &indexed.records;
+    if let Err(_) = ready::initial_key(records, track) {
+        return None;
     }
     let mark = (track + 1) as u16;
-    let mut frame = block::first_frame(s, b, track);
-    let mut link = block::first_link(s, b, track);
+    let mut frame = records.first_frame(track);
+    let mut link = records.first_link(track);
     let mut expected = track as u32;
     let mut n = 0;
-    let mut near = near::unknown();
+    let mut near = Near::default();
     while link != 0 {
-        match lookup::lookup(s, b, slots, link, near) {
-            Found::Absent => return Rising::Otherwise,
-            Found::At(p, place) => {
-                if !behind(s, b, p, expected, frame) {
-                    return Rising::Otherwise;
-                }
-                marks[p] = mark;
-                n = n + 1;
-                expected = link;
-                frame = block::frame_at(s, b, p);
-                near = near::after(near, place);
-                link = block::next_at(s, b, p);
-            }
+        let at = indexed.lookup(link, near)?;
+        let p = at.position;
+        if !behind(records, p, expected, frame) {
+            return None;
         }
+        marks[p] = mark;
+        n += 1;
+        expected = link;
+        frame = records.frame_at(p);
+        near = near.after(at.place);
+        link = records.next_at(p);
     }
-    Rising::Links(n)
+    Some(n)
 }
 
-fn mark_tracks(s: &[u8], b: Block, slots: &[u16], marks: &mut [u16]) -> Rising
-    requires ordered { Ordered s.now b slots.now }
-    requires marks_value { marks.old ≡ replicate b.records.count 0 }
-    ensures tracks_marked { TracksMarked s.now b marks.new result }
+fn mark_tracks(indexed: &Indexed, marks: &mut [u16]) -> Option<usize>
+    requires { marks.old ≡ replicate indexed.now.records.block.records.count 0 }
+    ensures tracks_marked { TracksMarked indexed.now.records.section.now indexed.now.records.block marks.new result }
     ensures marks_len_unchanged { length marks.new ≡ length marks.old }
 {
     let mut reached = 0;
-    let mut track = 0;
-    while track < b.initials.count {
-        match mark_chain(s, b, slots, track, marks) {
-            Rising::Otherwise => return Rising::Otherwise,
-            Rising::Links(n) => {
-                reached = reached + n;
-                track = track + 1;
-            }
-        }
+    for track in 0..indexed.records.block.initials.count {
+        reached += mark_chain(indexed, track, marks)?;
     }
-    Rising::Links(reached)
+    Some(reached)
 }
 
-pub fn mark_rising(s: &[u8], b: Block, slots: &[u16], marks: &mut [u16]) -> Rising
-    requires ordered { Ordered s.now b slots.now }
-    requires marks_len { length marks.old ≡ b.records.count }
-    ensures tracks_marked { TracksMarked s.now b marks.new result }
+// How many links were followed, if nothing else was found.
+pub fn mark_rising(indexed: &Indexed, marks: &mut [u16]) -> Option<usize>
+    requires { length marks.old ≡ indexed.now.records.block.records.count }
+    ensures tracks_marked { TracksMarked indexed.now.records.section.now indexed.now.records.block marks.new result }
     ensures marks_len_unchanged { length marks.new ≡ length marks.old }
 {
     bits::clear(marks);
-    mark_tracks(s, b, slots, marks)
+    mark_tracks(indexed, marks)
 }

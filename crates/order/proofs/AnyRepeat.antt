@@ -7,20 +7,20 @@ use mathlib.Core.Path.{◌≡◌, refl, sym, ap, subst, ◌∙◌}
 use borrow.Author.Tests.{ltb-true, ltb-false}
 use lib.Dec.{ltb}
 use lib.ListN.{length, get_or}
+use Rattle.std.specs.Prelude.{Option, Some, None}
 use Rattle.order.specs.Field.{number_of, Within, AllBelow}
 use Rattle.order.specs.Sorted.{times, Sorted}
 use Rattle.order.specs.Find.{Finds}
 use Rattle.order.specs.Repeat.{Repeats, number_at, with_first, Behind, LeastBehind}
 use Rattle.order.specs.declared.field.Field.{Field}
-use Rattle.order.specs.declared.answer.Find.{Find}
 use Rattle.order.proofs.Equals.{there, back, later-behind, behind-later}
 use Rattle.order.proofs.Times.{times-some, times-two, less-or-more}
 
 module _ (s : List ℕ) (f : Field) (within : Within s f) (before after : List ℕ) (sorted : Sorted s f before after) (below : AllBelow f.count before) (once : (x : ℕ) → times x before ≤ 1) where
   -- The given number is that of a slot.
-  pub repeats-first : (number : ℕ) (r : Find) → Finds s f after number r → (i : ℕ) → r ≡ Find.At i → Repeats (with_first number s f before) (length before + 1) true
+  pub repeats-first : (number : ℕ) (r : Option ℕ) → Finds s f after number r → (i : ℕ) → r ≡ Some i → Repeats (with_first number s f before) (length before + 1) true
   repeats-first number r finds i is =
-      let found : Finds s f after number (Find.At i) = subst (Finds s f after number) is finds in
+      let found : Finds s f after number (Some i) = subst (Finds s f after number) is finds in
       let at = back s f within before after sorted below once i found.0 in
       (0, suc at.place, omega arith, omega (arith, at.inside), sym (ap (number_of s f) at.is ∙ found.1))
 
@@ -40,7 +40,7 @@ module _ (s : List ℕ) (f : Field) (within : Within s f) (before after : List �
         (λ more. (suc b.place, suc a.place, omega arith, omega (arith, a.inside), sym same))
 
     -- No slot has the given number, and none stands right behind one with an equal number.
-    repeats-never : Finds s f after number Find.Absent → f.count ≤ m → Repeats (with_first number s f before) (length before + 1) false
+    repeats-never : Finds s f after number None → f.count ≤ m → Repeats (with_first number s f before) (length before + 1) false
     repeats-never absent none i zero lt inside same = absurd (omega arith)
     repeats-never absent none zero (suc j) lt inside same =
         let at = there s f within before after sorted below once (get_or before j 0) (times-some before j (omega arith)) in
@@ -58,10 +58,10 @@ module _ (s : List ℕ) (f : Field) (within : Within s f) (before after : List �
         never : (x : ℕ) → ((k : ℕ) × Behind s f after k × (get_or after k 0 ≡ x)) → x < f.count → ⊥
         never x at small = let least = pass.least at.0 at.1 in omega (arith, least, at.2)
 
-    pub repeats-told : (r : Find) → Finds s f after number r → r ≡ Find.Absent → Repeats (with_first number s f before) (length before + 1) (ltb m f.count)
+    pub repeats-told : (r : Option ℕ) → Finds s f after number r → r ≡ None → Repeats (with_first number s f before) (length before + 1) (ltb m f.count)
     repeats-told r finds is = go (ltb m f.count) refl
       where
-        absent : Finds s f after number Find.Absent
+        absent : Finds s f after number None
         absent = subst (Finds s f after number) is finds
 
         go : (b : Bool) → ltb m f.count ≡ b → Repeats (with_first number s f before) (length before + 1) b

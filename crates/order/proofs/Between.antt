@@ -1,14 +1,12 @@
 -- Binary search: a number that stands among the slots stands from `low` on and before `high`. Assumes nothing.
 use Prim.Native.Nat.{ℕ, ◌+◌, ◌≤◌, ◌<◌}
-use native.Mathlib.Decide.{dec_lt}
 use native.Mathlib.Omega.{arith}
 use mathlib.Core.List.{List}
-use mathlib.Core.Path.{◌≡◌, sym, ◌∙◌, subst}
+use mathlib.Core.Path.{◌≡◌, sym, subst}
 use lib.ListN.{length, get_or}
 use Rattle.order.specs.Field.{number_of}
-use Rattle.order.specs.Find.{NumbersRise, Finds}
+use Rattle.order.specs.Find.{NumbersRise}
 use Rattle.order.specs.declared.field.Field.{Field}
-use Rattle.order.specs.declared.answer.Find.{Find}
 use Rattle.order.proofs.Times.{equal_or_not}
 
 module _ (s : List ℕ) (f : Field) (xs : List ℕ) (number : ℕ) where
@@ -20,14 +18,6 @@ module _ (s : List ℕ) (f : Field) (xs : List ℕ) (number : ℕ) where
     pub within : high ≤ length xs
     pub under : (i : ℕ) → i < low → at i < number
     pub over : (i : ℕ) → high ≤ i → i < length xs → number < at i
-
-  pub bracket-start : Bracket 0 (length xs)
-  bracket-start = record {
-    ordered = omega arith;
-    within = omega arith;
-    under = λ i lt. absurd (omega arith);
-    over = λ i past lt. absurd (omega arith);
-  }
 
   -- The number at m, here, was compared.
   module _ (rise : NumbersRise s f xs) (low high : ℕ) (b : Bracket low high) (m here : ℕ) (from : low ≤ m) (to : m < high) (is : here ≡ at m) where
@@ -52,13 +42,3 @@ module _ (s : List ℕ) (f : Field) (xs : List ℕ) (number : ℕ) where
           (λ same. subst (λ k. number < at k) (sym same) (omega (arith, other)))
           (λ behind. let above = rise m i (omega (arith, behind)) lt in omega (arith, above, other));
     }
-
-    pub bracket-found : here ≡ number → Finds s f xs number (Find.At m)
-    bracket-found same = (omega arith, sym is ∙ same)
-
-  pub bracket-absent : (low high : ℕ) → Bracket low high → high ≤ low → Finds s f xs number Find.Absent
-  bracket-absent low high b closed i inside same = go (dec_lt i low)
-    where
-      go : Dec (i < low) → ⊥
-      go (yes before) = let less = b.under i before in omega (arith, less, same)
-      go (no past) = let more = b.over i (omega (arith, past)) inside in omega (arith, more, same)

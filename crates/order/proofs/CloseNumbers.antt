@@ -7,10 +7,10 @@ use mathlib.Core.Path.{◌≡◌, refl, ap, ◌∙◌, subst}
 use lib.ListN.{length, replicate, length-replicate}
 use Rattle.flags.specs.Flags.{Raised}
 use Rattle.flags.proofs.Meeting.{Met, none-met, met-new, met-before, met-more}
+use Rattle.std.specs.Prelude.{Some}
 use Rattle.order.specs.Repeat.{FirstRepeat, Repeats}
 use Rattle.order.specs.Consecutive.{PlaceOf}
 use Rattle.order.specs.Close.{FirstMet}
-use Rattle.order.specs.declared.answer.Find.{Find}
 use Rattle.order.proofs.Times.{equal_or_not}
 
 module _ (f : ℕ → ℕ) (least n : ℕ) where
@@ -36,7 +36,7 @@ module _ (f : ℕ → ℕ) (least n : ℕ) where
     counted : Raised (f p - least) slots after r
     counted = subst (λ y. Raised y slots after r) (let is = at.is in omega (arith, is)) raised
 
-    pub flags-met : r ≡ true → FirstMet f n (Find.At p)
+    pub flags-met : r ≡ true → FirstMet f n (Some p)
     flags-met up q e =
         let same : p ≡ q = cc in
         let before = met-before a.met refl counted above up in
@@ -52,6 +52,3 @@ module _ (f : ℕ → ℕ) (least n : ℕ) where
           (λ last. met-new a.met refl counted down i (omega (arith, last)) (same ∙ ap f last))
           (λ other. a.apart i j lt (omega (arith, other)) same);
     }
-
-pub none_found : (f : ℕ → ℕ) (n : ℕ) → FirstMet f n Find.Absent
-none_found f n p e = absurd (let z : ◌≡◌ {A = ℕ} 0 1 = cc in omega arith)

@@ -6,14 +6,6 @@ use Rattle.order.specs.Met.{Bounds}
 use Rattle.order.proofs.Times.{equal_or_not}
 
 module _ (v : ℕ → ℕ) (n number : ℕ) where
-  pub bounds-start : Bounds v n number 0 n
-  bounds-start = record {
-    ordered = omega arith;
-    within = omega arith;
-    under = λ i lt. absurd (omega arith);
-    rest = λ i past lt. absurd (omega arith);
-  }
-
   module _ (low high : ℕ) (b : Bounds v n number low high) where
     -- The number at m, here, was compared.
     module _ (rise : (i j : ℕ) → i < j → j < n → v i ≤ v j) (m here : ℕ) (from : low ≤ m) (to : m < high) (is : here ≡ v m) where
@@ -38,11 +30,3 @@ module _ (v : ℕ → ℕ) (n number : ℕ) where
             (λ same. subst (λ k. number ≤ v k) (sym same) (omega arith))
             (λ behind. let above = rise m i (omega (arith, behind)) lt in omega (arith, above));
       }
-
-    pub bounds-done : high ≤ low → Bounds v n number low low
-    bounds-done closed = record {
-      ordered = omega arith;
-      within = omega arith;
-      under = b.under;
-      rest = λ i past lt. b.rest i (omega arith) lt;
-    }

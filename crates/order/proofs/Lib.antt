@@ -6,12 +6,10 @@ pub mod Counted
 pub mod Equals
 pub mod FirstOfAll
 pub mod FirstPlaces
-pub mod FirstTold
 pub mod Halving
 pub mod Heaps
 pub mod InOrder
 pub mod Laws
-pub mod Marking
 pub mod Meeting
 pub mod Neighbours
 pub mod Risen

@@ -1,14 +1,15 @@
 -- The pass over slots that stand right behind one with an equal number. Assumes nothing.
-use Prim.Native.Nat.{ℕ, ◌+◌, ◌-◌, ◌≤◌, ◌<◌}
+use Prim.Native.Nat.{ℕ, ◌+◌, ◌-◌, ◌≤◌, ◌<◌, min}
+use native.Mathlib.Decide.{dec_lt}
 use native.Mathlib.Omega.{arith}
 use mathlib.Core.Bool.{Bool, true, false}
 use mathlib.Core.List.{List}
-use mathlib.Core.Path.{◌≡◌, refl, sym, subst, ◌∙◌}
+use mathlib.Core.Path.{◌≡◌, sym, subst, ◌∙◌}
 use borrow.Author.Tests.{eqb-true, eqb-false}
 use lib.Dec.{eqb}
 use lib.ListN.{length, get_or}
 use Rattle.order.specs.Find.{NumbersRise}
-use Rattle.order.specs.Repeat.{number_at, Behind, LeastBehind}
+use Rattle.order.specs.Repeat.{number_at, Behind}
 use Rattle.order.specs.declared.field.Field.{Field}
 use Rattle.order.proofs.Times.{equal_or_not}
 
@@ -28,14 +29,6 @@ module _ (s : List ℕ) (f : Field) (xs : List ℕ) where
     pub least : (j : ℕ) → j < i → Behind s f xs j → m ≤ get_or xs j 0
     pub some : m < n → (j : ℕ) × Behind s f xs j × (get_or xs j 0 ≡ m)
 
-  pub pass-start : (n : ℕ) → Passed n n 1
-  pass-start n = record {
-    started = omega arith;
-    most = omega arith;
-    least = λ j lt behind. absurd (omega (arith, behind.later));
-    some = λ lt. absurd (omega arith);
-  }
-
   module _ (n m i : ℕ) (passed : Passed n m i) where
     -- The slot at i does not change the answer: its number is another, or it is no less.
     pub pass-over : (Behind s f xs i → m ≤ get_or xs i 0) → Passed n m (i + 1)
@@ -49,23 +42,23 @@ module _ (s : List ℕ) (f : Field) (xs : List ℕ) where
       some = passed.some;
     }
 
-    pub pass-take : Behind s f xs i → get_or xs i 0 < m → Passed n (get_or xs i 0) (i + 1)
-    pass-take here less = record {
+    pub pass-least : Behind s f xs i → {least : ℕ} → least ≡ min m (get_or xs i 0) → Passed n least (i + 1)
+    pass-least here {least} is = record {
       started = omega arith;
       most = omega (arith, passed.most);
       least = λ j lt behind.
           equal_or_not j i
-          (λ same. subst (λ k. get_or xs i 0 ≤ get_or xs k 0) (sym same) (omega arith))
+          (λ same. subst (λ k. least ≤ get_or xs k 0) (sym same) (omega arith))
           (λ other. let before = passed.least j (omega (arith, other)) behind in omega (arith, before));
-      some = λ lt. (i, here, refl);
+      some = λ lt. go (dec_lt (get_or xs i 0) m) lt;
     }
-
-    pub pass-done : length xs ≤ i → LeastBehind s f xs n m
-    pass-done past = record {
-      most = passed.most;
-      least = λ j behind. passed.least j (omega (arith, behind.inside)) behind;
-      some = passed.some;
-    }
+      where
+        go : Dec (get_or xs i 0 < m) → least < n → (j : ℕ) × Behind s f xs j × (get_or xs j 0 ≡ least)
+        go (yes less) lt = (i, here, omega arith)
+        go (no past) lt =
+            let same : m ≡ least = omega (arith, past) in
+            let before = passed.some (omega arith) in
+            (before.0, before.1, before.2 ∙ same)
 
   -- Where numbers rise, the slot right before one with an equal number somewhere before it has that number too.
   pub behind-of : NumbersRise s f xs → (a b : ℕ) → a < b → b < length xs → number_at s f xs a ≡ number_at s f xs b → Behind s f xs b

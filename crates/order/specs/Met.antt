@@ -1,10 +1,9 @@
 -- Numbers met one after another, among slots whose numbers do not fall. `v` gives the number at a place of the slots. Definitions only.
-use Rattle.std.specs.Prelude.{ℕ, ◌+◌, ◌<◌, ◌≤◌, Bool, true, false, List, ◌≡◌, get_or}
+use Rattle.std.specs.Prelude.{ℕ, ◌+◌, ◌<◌, ◌≤◌, Bool, true, false, List, ◌≡◌, get_or, Option, Some, None}
 use Rattle.std.proofs.Math.ListN as list
 use Rattle.order.specs.Field.{AllBelow}
 use Rattle.order.specs.Repeat.{number_at}
 use Rattle.order.specs.declared.field.Field.{Field}
-use Rattle.order.specs.declared.answer.Find.{Find}
 
 -- Of n numbers, those before `low` are below the given one, and those from `high` on are not.
 pub record Bounds (v : ℕ → ℕ) (n number low high : ℕ) : Type 0 where
@@ -20,9 +19,9 @@ pub record Twice (v : ℕ → ℕ) (n number i : ℕ) : Type 0 where
   pub here : v i ≡ number
   pub next : v (i + 1) ≡ number
 
-abbrev pub FirstTwo : (ℕ → ℕ) → ℕ → ℕ → Find → Type 0
-FirstTwo v n number (Find.At i) = Twice v n number i
-FirstTwo v n number Find.Absent = (i : ℕ) → Twice v n number i → ⊥
+abbrev pub FirstTwo : (ℕ → ℕ) → ℕ → ℕ → Option ℕ → Type 0
+FirstTwo v n number (Some i) = Twice v n number i
+FirstTwo v n number None = (i : ℕ) → Twice v n number i → ⊥
 
 -- Whether the first two slots of a number are equal.
 abbrev pub Marked : List ℕ → Field → List ℕ → ℕ → Bool → Type 0

@@ -2,7 +2,6 @@
 // that stand twice. Each call takes about n log n steps at most, whatever the bytes are, and no memory of its own.
 #![tactic(auto)]
 
-pub mod answer;
 mod close;
 mod consecutive;
 pub mod field;
@@ -10,4 +9,5 @@ mod heap;
 pub mod met;
 pub mod repeats;
 pub mod search;
+pub mod slots;
 pub mod sorting;

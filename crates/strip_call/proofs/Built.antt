@@ -3,8 +3,8 @@ use Prim.Native.Nat.{ℕ, zero, suc, ◌≤◌, ◌<◌}
 use native.Mathlib.Omega.{arith}
 use mathlib.Core.Bool.{Bool, true, false, cond}
 use mathlib.Core.List.{List, [], ◌∷◌}
-use mathlib.Core.Option.{Option, none, some}
-use mathlib.Core.Path.{◌≡◌, refl, sym, ap, ◌∙◌, subst}
+use mathlib.Core.Option.{none, some}
+use mathlib.Core.Path.{◌≡◌, refl, ap, subst}
 use borrow.Author.Tests.{lt-ltb, le-ltb, ltb-true, ltb-false}
 use lib.Dec.{ltb}
 use lib.ListN.{length, length-append}
@@ -15,26 +15,18 @@ use Rattle.clip.specs.Build.{positions, chain_refusal, chain_of, disconnected, t
 use Rattle.clip.proofs.First.{or-none, first-none}
 use Rattle.strip.specs.Work.{each, track_mark}
 use Rattle.chains.specs.Block.{kind_of, links}
-use Rattle.chains.specs.Fault.{fault_of, met_read}
+use Rattle.chains.specs.Fault.{fault_of}
 use Rattle.chains.specs.Lookup.{Ordered}
 use Rattle.chains.specs.Walk.{AllEnd}
 use Rattle.track_keys.specs.Tracks.{meets, tracks_meet}
 use Rattle.chains.specs.declared.block.Block.{Block}
 use Rattle.chains.specs.declared.fault.Fault.{Fault}
-use Rattle.chains.specs.declared.fault.Met.{Met}
 use Rattle.marks.specs.Marks.{counts_of}
 use Rattle.marks.specs.declared.counts.Counts.{Counts}
 use Rattle.strip_call.specs.Building.{kind_meets, Passed, Builds, reported}
-use Rattle.strip_call.specs.declared.answer.BuiltKind.{BuiltKind}
+use Rattle.std.specs.Prelude.{Ok, Err}
 
 module _ (s : List ℕ) (b : Block) where
-  -- What a call that tells of refusals answers.
-  pub met-none : (m : Met) (x : Option Refusal) → met_read (kind_of b.kind) b.initials.count m ≡ x → m ≡ Met.Nothing → x ≡ none
-  met-none m x contract seen = sym contract ∙ ap (met_read (kind_of b.kind) b.initials.count) seen
-
-  pub met_some : (m : Met) (x : Option Refusal) (fault : Fault) → met_read (kind_of b.kind) b.initials.count m ≡ x → m ≡ Met.Refused fault → x ≡ some (fault_of (kind_of b.kind) b.initials.count fault)
-  met_some m x fault contract seen = sym contract ∙ ap (met_read (kind_of b.kind) b.initials.count) seen
-
   pub scan-meets : (why : Refusal) → scan (kind_of b.kind) (links s b) ≡ some why → kind_meets s b ≡ some why
   unfolding build_refusal
   scan-meets why is = rw is
@@ -87,6 +79,6 @@ module _ (s : List ℕ) (b : Block) (counts : Counts) (is : counts ≡ counts_of
   pub reports : (slots marks : List ℕ) → Ordered s b slots → marks ≡ each b.records.count (track_mark (kind_of b.kind) (links s b)) → Builds s b slots marks (reported counts)
   reports slots marks ordered marked = go (ltb 0 counts.disconnected) refl
     where
-      go : (some : Bool) → ltb 0 counts.disconnected ≡ some → Builds s b slots marks (cond some (BuiltKind.Refused (Fault.Disconnected counts.disconnected)) (BuiltKind.Counted counts.reached counts.loose))
+      go : (some : Bool) → ltb 0 counts.disconnected ≡ some → Builds s b slots marks (cond some (Err (Fault.Disconnected counts.disconnected)) (Ok (record { reached = counts.reached; loose = counts.loose })))
       go true e = counted-left (ltb-true 0 counts.disconnected e)
       go false e = counted slots marks ordered marked (ltb-false 0 counts.disconnected e)

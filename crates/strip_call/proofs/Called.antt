@@ -26,8 +26,11 @@ use Rattle.chains.specs.declared.block.Block.{Block}
 use Rattle.strip_call.specs.Blocks.{bone_block, morph_block}
 use Rattle.strip_call.specs.Answers.{Says}
 use Rattle.strip_call.specs.Building.{kind_meets}
-use Rattle.strip_call.specs.Outcomes.{outcome_of, parts_of, Strippable, WasRead}
-use Rattle.strip_call.specs.declared.answer.Strip.{Strip}
+use Rattle.strip_call.specs.Bytes.{strip_bytes}
+use Rattle.strip_call.specs.Outcomes.{outcome_of, parts_of, WasRead}
+use Rattle.chains.specs.Block.{Fits}
+use Rattle.strip_call.specs.declared.answer.Built.{Built as Told}
+use Rattle.std.specs.Prelude.{Result, Err}
 use Rattle.strip_call.specs.declared.answer.StripRefusal.{StripRefusal}
 use Rattle.strip_call.proofs.Same.{same_met, same-strip, same_outcome, bones-stand, morphs-stand}
 
@@ -45,22 +48,17 @@ module _ {s : List ℕ} {m : Model} (w : WasRead s m) {bb mb : Block} (eb : bb �
       let n2 : mb.records.count ≤ 65534 = rw em b.morphs.within in
       omega (arith, n1, n2)
 
-  pub strippable : {first second : List ℕ} → bb.records.count + mb.records.count ≤ length first → bb.records.count + mb.records.count ≤ length second → Strippable s bb mb first second
-  unfolding bone_block morph_block
-  strippable room₁ room₂ =
-      let b = blocks edition1 s w.start m w.end w.reads in
-      record {
-        bones_fit = rw eb (bones-stand s m b);
-        morphs_fit = rw em (morphs-stand s m b);
-        bone_kind = rw eb;
-        morph_kind = rw em;
-        first_room = room₁;
-        second_room = room₂;
-        short = λ n1 n2.
-            let met : clip_refusal s m ≡ none = same_met s m ∙ none_or (kind_meets s (bone_block m)) (kind_meets s (morph_block m)) (subst (λ (k : Block). kind_meets s k ≡ none) eb n1) (subst (λ (k : Block). kind_meets s k ≡ none) em n2) in
-            let short = no_longer edition1 count_width (omega arith) s w.start m w.end w.reads met in
-            rw (eb, em) (subst (λ (l : List ℕ). length l ≤ length s) (same-strip s m) short);
-      }
+  pub bones-within : Fits s bb
+  bones-within = let b = blocks edition1 s w.start m w.end w.reads in rw eb (bones-stand s m b)
+
+  pub morphs-within : Fits s mb
+  morphs-within = let b = blocks edition1 s w.start m w.end w.reads in rw em (morphs-stand s m b)
+
+  pub no_longer-here : kind_meets s bb ≡ none → kind_meets s mb ≡ none → length (strip_bytes s bb mb) ≤ length s
+  no_longer-here n1 n2 =
+      let met : clip_refusal s m ≡ none = same_met s m ∙ none_or (kind_meets s (bone_block m)) (kind_meets s (morph_block m)) (subst (λ (k : Block). kind_meets s k ≡ none) eb n1) (subst (λ (k : Block). kind_meets s k ≡ none) em n2) in
+      let short = no_longer edition1 count_width (omega arith) s w.start m w.end w.reads met in
+      rw (eb, em) (subst (λ (l : List ℕ). length l ≤ length s) (same-strip s m) short)
 
   module _ (first second output : List ℕ) where
     tested : Bool → Outcome
@@ -70,7 +68,7 @@ module _ {s : List ℕ} {m : Model} (w : WasRead s m) {bb mb : Block} (eb : bb �
     unfolding tested
     by-test b e = rw (counted, e)
 
-    too_short : (ltb (length first) (bb.records.count + mb.records.count) || ltb (length second) (bb.records.count + mb.records.count)) ≡ true → Says (slices_tested first second output count_width s m ((bones s m).additional + (morphs s m).additional)) (Strip.Refused (StripRefusal.WorkTooShort (bb.records.count + mb.records.count))) first second output
+    too_short : (ltb (length first) (bb.records.count + mb.records.count) || ltb (length second) (bb.records.count + mb.records.count)) ≡ true → Says (slices_tested first second output count_width s m ((bones s m).additional + (morphs s m).additional)) (Err (StripRefusal.WorkTooShort (bb.records.count + mb.records.count))) first second output
     unfolding tested
     too_short e =
         let o = by-test true e in
@@ -81,13 +79,13 @@ module _ {s : List ℕ} {m : Model} (w : WasRead s m) {bb mb : Block} (eb : bb �
           leaves_output = sym (ap (λ (x : Outcome). x.output) o);
         }
 
-    pub first_short : length first < bb.records.count + mb.records.count → Says (slices_tested first second output count_width s m ((bones s m).additional + (morphs s m).additional)) (Strip.Refused (StripRefusal.WorkTooShort (bb.records.count + mb.records.count))) first second output
+    pub first_short : length first < bb.records.count + mb.records.count → Says (slices_tested first second output count_width s m ((bones s m).additional + (morphs s m).additional)) (Err (StripRefusal.WorkTooShort (bb.records.count + mb.records.count))) first second output
     first_short less = too_short (rw (lt-ltb (length first) (bb.records.count + mb.records.count) less))
 
-    pub second_short : bb.records.count + mb.records.count ≤ length first → length second < bb.records.count + mb.records.count → Says (slices_tested first second output count_width s m ((bones s m).additional + (morphs s m).additional)) (Strip.Refused (StripRefusal.WorkTooShort (bb.records.count + mb.records.count))) first second output
+    pub second_short : bb.records.count + mb.records.count ≤ length first → length second < bb.records.count + mb.records.count → Says (slices_tested first second output count_width s m ((bones s m).additional + (morphs s m).additional)) (Err (StripRefusal.WorkTooShort (bb.records.count + mb.records.count))) first second output
     second_short fits less = too_short (rw (le-ltb (length first) (bb.records.count + mb.records.count) fits, lt-ltb (length second) (bb.records.count + mb.records.count) less))
 
-    pub long-enough : {r : Strip} {first' second' output' : List ℕ} → bb.records.count + mb.records.count ≤ length first → bb.records.count + mb.records.count ≤ length second → Says (outcome_of first second output (bb.records.count + mb.records.count) (parts_of s bb mb)) r first' second' output' → Says (slices_tested first second output count_width s m ((bones s m).additional + (morphs s m).additional)) r first' second' output'
+    pub long-enough : {r : Result Told StripRefusal} {first' second' output' : List ℕ} → bb.records.count + mb.records.count ≤ length first → bb.records.count + mb.records.count ≤ length second → Says (outcome_of first second output (bb.records.count + mb.records.count) (parts_of s bb mb)) r first' second' output' → Says (slices_tested first second output count_width s m ((bones s m).additional + (morphs s m).additional)) r first' second' output'
     unfolding tested
     long-enough {r} {first'} {second'} {output'} room₁ room₂ says =
         let o = by-test false (rw (le-ltb (length first) (bb.records.count + mb.records.count) room₁, le-ltb (length second) (bb.records.count + mb.records.count) room₂)) in
@@ -96,7 +94,7 @@ module _ {s : List ℕ} {m : Model} (w : WasRead s m) {bb mb : Block} (eb : bb �
         subst (λ (x : Outcome). Says x r first' second' output') (sym (o ∙ parts)) says
 
 module _ (s : List ℕ) (start : ℕ) (first second output : List ℕ) (a : ReadModel) (contract : model_read a ≡ model_section edition1 s start) where
-  pub not-read : (why : _) → a ≡ ReadModel.Refused why → Says (strip_call edition1 count_width s start first second output) (Strip.Refused (StripRefusal.Reading why)) first second output
+  pub not-read : (why : _) → a ≡ ReadModel.Refused why → Says (strip_call edition1 count_width s start first second output) (Err (StripRefusal.Reading why)) first second output
   unfolding strip_call
   not-read why seen =
       let walk : model_section edition1 s start ≡ refused (because why) = sym contract ∙ ap model_read seen in
@@ -106,7 +104,7 @@ module _ (s : List ℕ) (start : ℕ) (first second output : List ℕ) (a : Read
     pub was_read : WasRead s m
     was_read = record { start = start; end = end; reads = sym contract ∙ ap model_read seen }
 
-    pub read-says : (r : Strip) (first' second' output' : List ℕ) → Says (slices_tested first second output count_width s m ((bones s m).additional + (morphs s m).additional)) r first' second' output' → Says (strip_call edition1 count_width s start first second output) r first' second' output'
+    pub read-says : (r : Result Told StripRefusal) (first' second' output' : List ℕ) → Says (slices_tested first second output count_width s m ((bones s m).additional + (morphs s m).additional)) r first' second' output' → Says (strip_call edition1 count_width s start first second output) r first' second' output'
     unfolding strip_call
     read-says r first' second' output' says =
         let walk : model_section edition1 s start ≡ fine m end = sym contract ∙ ap model_read seen in

@@ -2,18 +2,14 @@
 use Prim.Native.Nat.{ℕ, ◌+◌, ◌≤◌}
 use native.Mathlib.Omega.{arith}
 use mathlib.Core.List.{List}
-use mathlib.Core.Path.{◌≡◌, subst}
+use mathlib.Core.Path.{◌≡◌}
 use Rattle.clip.proofs.Sound.{sound}
 use Rattle.clip.proofs.Reached.{reached-and-loose}
 use Rattle.chains.specs.Block.{kind_of, links}
 use Rattle.track_keys.specs.Tracks.{test_at}
 use Rattle.chains.specs.declared.block.Block.{Block}
-use Rattle.strip_call.specs.Building.{Passed, Builds}
+use Rattle.strip_call.specs.Building.{Passed}
 use Rattle.strip_call.specs.Parts.{part, Outside}
-use Rattle.strip_call.specs.declared.answer.BuiltKind.{BuiltKind}
-
-pub as-told : (s : List ℕ) (b : Block) (slots marks : List ℕ) {r told : BuiltKind} → r ≡ told → Builds s b slots marks r → Builds s b slots marks told
-as-told s b slots marks e builds = subst (λ (k : BuiltKind). Builds s b slots marks k) e builds
 
 pub passed-all : {s : List ℕ} {b : Block} {slots marks : List ℕ} {reached left : ℕ} → Passed s b slots marks reached left → reached + left ≡ b.records.count
 passed-all {s} {b} p =
@@ -23,8 +19,8 @@ passed-all {s} {b} p =
     omega arith
 
 -- The bones passed, and their places are as the morphs' build left them.
-pub front-passed : {s : List ℕ} {b : Block} {m : ℕ} (first₁ second₁ first₂ second₂ : List ℕ) {r : BuiltKind} {reached left : ℕ} → r ≡ BuiltKind.Counted reached left → Builds s b (part 0 b.records.count first₁) (part 0 b.records.count second₁) r → Outside b.records.count m first₁ first₂ → Outside b.records.count m second₁ second₂ → Passed s b (part 0 b.records.count first₂) (part 0 b.records.count second₂) reached left
-front-passed first₁ second₁ first₂ second₂ seen builds one two = rw (one.front, two.front) (as-told _ _ _ _ seen builds)
+pub front-passed : {s : List ℕ} {b : Block} {m : ℕ} (first₁ second₁ first₂ second₂ : List ℕ) {reached left : ℕ} → Passed s b (part 0 b.records.count first₁) (part 0 b.records.count second₁) reached left → Outside b.records.count m first₁ first₂ → Outside b.records.count m second₁ second₂ → Passed s b (part 0 b.records.count first₂) (part 0 b.records.count second₂) reached left
+front-passed first₁ second₁ first₂ second₂ passed one two = rw (one.front, two.front) passed
 
 -- The numbers of both kinds together.
 module _ {s₁ s₂ : List ℕ} {bones morphs : Block} {slots₁ marks₁ slots₂ marks₂ : List ℕ} {reached left more loose : ℕ} (few₁ : bones.records.count ≤ 65534) (few₂ : morphs.records.count ≤ 65534) (passed₁ : Passed s₁ bones slots₁ marks₁ reached left) (passed₂ : Passed s₂ morphs slots₂ marks₂ more loose) where

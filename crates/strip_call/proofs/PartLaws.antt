@@ -42,3 +42,13 @@ outside-both {a} {n} {before} {middle} {after} o p =
       front = refl;
       back = ap (λ (k : ℕ). drop k after) sum ∙ p.back ∙ sym (ap (λ (k : ℕ). drop k middle) sum) ∙ first.back;
     }
+
+-- What a part that was lent holds once it is back, and what is outside it.
+pub record PutBack (from n : ℕ) (before now ys : List ℕ) : Type 0 where
+  pub holds : part from n now ≡ ys
+  pub outside : Outside from n before now
+
+pub put-back : (from n : ℕ) (xs ys : List ℕ) → from + n ≤ length xs → length ys ≡ length (mid_of from (from + n - from) xs) → PutBack from n xs (put_mid from (from + n - from) xs ys) ys
+put-back from n xs ys room same =
+    let full : length ys ≡ n = same ∙ part-full from n xs room in
+    record { holds = part-put from n xs ys room full; outside = outside-put from n xs ys room full }

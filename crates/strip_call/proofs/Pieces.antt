@@ -1,27 +1,18 @@
 -- The strip is written in four pieces. Assumes nothing.
-use Prim.Native.Nat.{ℕ, ◌+◌, ◌-◌, ◌≤◌}
+use Prim.Native.Nat.{ℕ, ◌+◌, ◌≤◌}
 use native.Mathlib.Omega.{arith}
 use mathlib.Core.List.{List, ◌++◌}
-use mathlib.Core.Path.{◌≡◌, ap, ◌∙◌, subst}
-use lib.ListN.{length, take, drop, length-append}
+use mathlib.Core.Path.{◌≡◌, ap, ◌∙◌}
+use lib.ListN.{length, length-append}
 use Rattle.keys.specs.Placed.{placed, Room, Wrote}
 use Rattle.keys.proofs.Placing.{length-placed, room-front, room_back, wrote_then, number-wrote}
 use Rattle.strip.specs.Keys.{little_endian}
 use Rattle.strip.proofs.Bytes.{length-little_endian}
-use Rattle.chains.specs.Lookup.{Ordered}
 use Rattle.chains.specs.declared.block.Block.{Block}
 use Rattle.writing.specs.Tracks.{strip_tracks}
-use Rattle.strip_call.specs.Bytes.{strip_bytes, Readable}
+use Rattle.strip_call.specs.Bytes.{strip_bytes}
 
-module _ {s : List ℕ} {bones morphs : Block} {first : List ℕ} (r : Readable s bones morphs first) where
-  pub bones-in : Ordered s bones (take (bones.records.count - 0) first)
-  bones-in = let same : bones.records.count ≡ bones.records.count - 0 = omega arith in subst (λ (k : ℕ). Ordered s bones (take k first)) same r.bone_order
-
-  pub morphs-in : Ordered s morphs (take (bones.records.count + morphs.records.count - bones.records.count) (drop bones.records.count first))
-  morphs-in =
-      let same : morphs.records.count ≡ bones.records.count + morphs.records.count - bones.records.count = omega arith in
-      subst (λ (k : ℕ). Ordered s morphs (take k (drop bones.records.count first))) same r.morph_order
-
+module _ (s : List ℕ) (bones morphs : Block) where
   pub measured : length (strip_bytes s bones morphs) ≡ 4 + length (strip_tracks s bones) + length (strip_tracks s morphs)
   unfolding strip_bytes
   measured =

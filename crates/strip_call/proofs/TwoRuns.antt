@@ -9,7 +9,9 @@ use Rattle.strip.proofs.Demand3.{demand3}
 use Rattle.clip.proofs.Follow.{no_answer}
 use Rattle.strip_call.specs.Answers.{strip_read}
 use Rattle.strip_call.specs.Demand3.{Run, Accepted, strip_out, MatchedRuns, AcceptedRuns}
-use Rattle.strip_call.specs.declared.answer.Strip.{Strip}
+use Rattle.strip_call.specs.declared.answer.Built.{Built}
+use Rattle.strip_call.specs.declared.answer.StripRefusal.{StripRefusal}
+use Rattle.std.specs.Prelude.{Result, Ok, Err}
 
 module _ (x : Run) where
   -- A run that answers a strip is accepted by the definition, with the same strip; and the other way round.
@@ -27,9 +29,9 @@ module _ (x : Run) where
   up : Strip1.Accepted edition1 count_width x.lent → Accepted x
   up a = go x.answer refl (x.says.answers ∙ a.answers)
     where
-      go : (r : Strip) → x.answer ≡ r → strip_read x.answer ≡ answered a.answer → Accepted x
-      go (Strip.Built length reached left) is e = record { length = length; reached = reached; loose_ones = left; answers = is }
-      go (Strip.Refused why) is e = no_answer (sym (ap strip_read is) ∙ e)
+      go : (r : Result Built StripRefusal) → x.answer ≡ r → strip_read x.answer ≡ answered a.answer → Accepted x
+      go (Ok built) is e = record { length = built.length; reached = built.reached; loose_ones = built.loose; answers = is }
+      go (Err why) is e = no_answer (sym (ap strip_read is) ∙ e)
 
 pub matched-runs : MatchedRuns
 matched-runs =

@@ -1,12 +1,12 @@
 -- What the strip call's answer says in document 01's terms, and what a run of it leaves. Definitions only.
-use Rattle.std.specs.Prelude.{List, [], ◌∷◌, ◌≡◌, ℕ, pos}
+use Rattle.std.specs.Prelude.{List, [], ◌∷◌, ◌≡◌, ℕ, pos, Result, Ok, Err}
 use Rattle.layout.specs.Walk.{Refusal, refusal, Answer, answered, declined}
 use Rattle.binary.specs.Answers.{because}
 use Rattle.clip.specs.Fields.{bone, morph}
 use Rattle.strip.specs.Call.{Built, Outcome}
 use Rattle.chains.specs.Fault.{fault_of}
 use Rattle.strip_call.specs.declared.answer.StripRefusal.{StripRefusal}
-use Rattle.strip_call.specs.declared.answer.Strip.{Strip}
+use Rattle.strip_call.specs.declared.answer.Built.{Built as Told}
 
 abbrev pub refusal_read : StripRefusal → Refusal
 refusal_read (StripRefusal.Reading why) = because why
@@ -15,12 +15,12 @@ refusal_read (StripRefusal.Morphs count fault) = fault_of morph count fault
 refusal_read (StripRefusal.WorkTooShort need) = refusal 17 (pos need ∷ [])
 refusal_read (StripRefusal.OutputTooShort length) = refusal 18 (pos length ∷ [])
 
-abbrev pub strip_read : Strip → Answer Built
-strip_read (Strip.Built length reached loose_ones) = answered (record { length = length; reached = reached; loose = loose_ones })
-strip_read (Strip.Refused why) = declined (refusal_read why)
+abbrev pub strip_read : Result Told StripRefusal → Answer Built
+strip_read (Ok built) = answered (record { length = built.length; reached = built.reached; loose = built.loose })
+strip_read (Err why) = declined (refusal_read why)
 
 -- What a run leaves is what the outcome says.
-pub record Says (o : Outcome) (r : Strip) (first second output : List ℕ) : Type 0 where
+pub record Says (o : Outcome) (r : Result Told StripRefusal) (first second output : List ℕ) : Type 0 where
   pub answers : strip_read r ≡ o.answer
   pub leaves_first : first ≡ o.first
   pub leaves_second : second ≡ o.second

@@ -20,3 +20,12 @@ bone_block m = block_of Kind.Bone Table.bone m.front.counts.bones.count m.keyfra
 
 unfoldable pub morph_block : Model → Block
 morph_block m = block_of Kind.Morph Table.morph m.front.counts.morphs.count m.keyframes.morphs
+
+-- The items of a kind's records, and where a model's records of a kind stand.
+abbrev pub items_of : Kind → List ℕ
+items_of Kind.Bone = Table.bone
+items_of Kind.Morph = Table.morph
+
+abbrev pub model_block : Kind → Model → Block
+model_block Kind.Bone m = bone_block m
+model_block Kind.Morph m = morph_block m

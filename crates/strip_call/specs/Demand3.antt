@@ -1,17 +1,18 @@
 -- Demand 3 for any two runs of the strip call, from its contract alone. Definitions only; the proofs are in proofs/TwoRuns.antt.
-use Rattle.std.specs.Prelude.{ℕ, List, ◌↔◌, ◌≡◌, take}
+use Rattle.std.specs.Prelude.{ℕ, List, ◌↔◌, ◌≡◌, take, Result, Ok}
 use Rattle.section.specs.Limits.{edition1}
 use Rattle.clip.specs.Section.{bones, morphs}
 use Rattle.clip.specs.Matched.{Matched, UnpairedIdle}
 use Rattle.strip.specs.Strip.{count_width}
 use Rattle.strip.specs.Runs.{Lent, outcome, Within, LongEnough, SameTracks}
 use Rattle.strip_call.specs.Answers.{Says}
-use Rattle.strip_call.specs.declared.answer.Strip.{Strip}
+use Rattle.strip_call.specs.declared.answer.Built.{Built}
+use Rattle.strip_call.specs.declared.answer.StripRefusal.{StripRefusal}
 
 -- A run: what was lent, what was answered, and what the slices held afterwards. `says` is the call's contract, word for word.
 pub record Run : Type 0 where
   pub lent : Lent
-  pub answer : Strip
+  pub answer : Result Built StripRefusal
   pub first : List ℕ
   pub second : List ℕ
   pub output : List ℕ
@@ -22,7 +23,7 @@ pub record Accepted (x : Run) : Type 0 where
   pub length : ℕ
   pub reached : ℕ
   pub loose_ones : ℕ
-  pub answers : x.answer ≡ Strip.Built length reached loose_ones
+  pub answers : x.answer ≡ Ok (record { length = length; reached = reached; loose = loose_ones })
 
 abbrev pub strip_out : (x : Run) → Accepted x → List ℕ
 strip_out x a = take a.length x.output

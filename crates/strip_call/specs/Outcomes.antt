@@ -1,6 +1,6 @@
 -- The strip call's outcome told over the blocks' offsets, for the private functions: proofs/Same has it equal to that of the strip's
 -- definitions. Definitions only.
-use Rattle.std.specs.Prelude.{ℕ, ◌+◌, ◌≤◌, cond, List, [], ◌∷◌, ◌++◌, ◌≡◌, ltb, pos, length, replicate}
+use Rattle.std.specs.Prelude.{ℕ, ◌+◌, ◌≤◌, cond, List, [], ◌∷◌, ◌++◌, ◌≡◌, ltb, pos, length, Result, Ok, Err}
 use Rattle.std.proofs.Math.Option.{Option, none, some}
 use Rattle.layout.specs.Walk.{Refusal, refusal, answered, fine}
 use Rattle.section.specs.Limits.{edition1}
@@ -10,12 +10,14 @@ use Rattle.clip.specs.First.{◌or◌}
 use Rattle.clip.specs.Build.{links_followed, loose}
 use Rattle.strip.specs.Work.{each, by_index, track_mark}
 use Rattle.strip.specs.Call.{Outcome, over, zeroed}
-use Rattle.chains.specs.Block.{Fits, kind_of, links}
+use Rattle.chains.specs.Block.{kind_of, links}
 use Rattle.chains.specs.declared.block.Block.{Block}
-use Rattle.chains.specs.declared.block.Kind.{Kind}
+use Rattle.chains.specs.declared.block.Records.{Records}
+use Rattle.strip_call.specs.Answers.{refusal_read, Says}
 use Rattle.strip_call.specs.Building.{kind_meets}
+use Rattle.strip_call.specs.Parts.{Outside}
 use Rattle.strip_call.specs.Bytes.{strip_bytes}
-use Rattle.strip_call.specs.declared.answer.Strip.{Strip}
+use Rattle.strip_call.specs.declared.answer.Built.{Built as Told}
 use Rattle.strip_call.specs.declared.answer.StripRefusal.{StripRefusal}
 
 -- What is met, the strip, reached and loose, and the contents of the work slices.
@@ -56,21 +58,29 @@ parts_of s bones morphs =
       second_work = each bones.records.count (track_mark (kind_of bones.kind) (links s bones)) ++ each morphs.records.count (track_mark (kind_of morphs.kind) (links s morphs));
     }
 
--- A refusal that leaves the first places of both work slices 0.
-pub record Refuses (why : StripRefusal) (need : ℕ) (first second : List ℕ) (r : Strip) (first' second' : List ℕ) : Type 0 where
-  pub answers : r ≡ Strip.Refused why
-  pub clears_first : first' ≡ over (replicate need 0) first
-  pub clears_second : second' ≡ over (replicate need 0) second
+-- The work slices are long enough, and a strip is no longer than the section.
+pub record Strippable (bones morphs : Records) (first second : List ℕ) : Type 0 where
+  pub one_section : morphs.section.now ≡ bones.section.now
+  pub first_room : bones.block.records.count + morphs.block.records.count ≤ length first
+  pub second_room : bones.block.records.count + morphs.block.records.count ≤ length second
+  pub short :
+      kind_meets bones.section.now bones.block ≡ none → kind_meets bones.section.now morphs.block ≡ none
+      → length (strip_bytes bones.section.now bones.block morphs.block) ≤ length bones.section.now
 
--- The blocks stand in the section, the work slices are long enough, and a strip is no longer than the section.
-pub record Strippable (s : List ℕ) (bones morphs : Block) (first second : List ℕ) : Type 0 where
-  pub bones_fit : Fits s bones
-  pub morphs_fit : Fits s morphs
-  pub bone_kind : bones.kind ≡ Kind.Bone
-  pub morph_kind : morphs.kind ≡ Kind.Morph
-  pub first_room : bones.records.count + morphs.records.count ≤ length first
-  pub second_room : bones.records.count + morphs.records.count ≤ length second
-  pub short : kind_meets s bones ≡ none → kind_meets s morphs ≡ none → length (strip_bytes s bones morphs) ≤ length s
+-- How a build and its strip end: a refusal leaves only those places of the work slices changed.
+pub record Refuses (o : Outcome) (why : StripRefusal) (need : ℕ) (first second output first' second' output' : List ℕ) : Type 0 where
+  pub zeroes : o ≡ zeroed first second output need (refusal_read why)
+  pub outside_first : Outside 0 need first first'
+  pub outside_second : Outside 0 need second second'
+  pub leaves_output : output' ≡ output
+
+abbrev pub Ends : Outcome → ℕ → List ℕ → List ℕ → List ℕ → Result Told StripRefusal → List ℕ → List ℕ → List ℕ → Type 0
+Ends o need first second output (Err why) first' second' output' = Refuses o why need first second output first' second' output'
+Ends o need first second output (Ok built) first' second' output' = Says o (Ok built) first' second' output'
+
+abbrev pub Leaves : Records → Records → List ℕ → List ℕ → List ℕ → Result Told StripRefusal → List ℕ → List ℕ → List ℕ → Type 0
+Leaves bones morphs first second output =
+    Ends (outcome_of first second output (bones.block.records.count + morphs.block.records.count) (parts_of bones.section.now bones.block morphs.block)) (bones.block.records.count + morphs.block.records.count) first second output
 
 -- The model that reading a section from some start gives.
 pub record WasRead (s : List ℕ) (m : Model) : Type 0 where

@@ -1,22 +1,29 @@
 // What the strip call answers; specs/Answers.antt gives document 01's number and values for each case.
+ghost use Rattle.std.specs.Prelude.{◌≡◌};
+ghost use Rattle.chains.specs.Block.{kind_of};
+ghost use Rattle.chains.specs.Fault.{fault_of};
+
+use crate::number;
 use binary::counts::Refusal;
+use chains::block::{Block, Kind};
 use chains::fault::Fault;
 
-// What the build of one kind meets, or how many links were followed and how many records are loose.
-#[derive(Clone, Copy)]
-pub enum BuiltKind {
-    Refused(Fault),
-    Counted(usize, usize),
+// How many links a build followed, and how many records are loose.
+#[derive(Clone, Copy, Debug, PartialEq, Eq)]
+pub struct Counted {
+    pub reached: usize,
+    pub loose: usize,
 }
 
-// The same for the whole clip; a fault is told with the number of its kind's tracks.
-#[derive(Clone, Copy)]
-pub enum BuiltClip {
-    Bones(usize, Fault),
-    Morphs(usize, Fault),
-    Counted(usize, usize),
+// The strip's length, the links followed and the loose records.
+#[derive(Clone, Copy, Debug, PartialEq, Eq)]
+pub struct Built {
+    pub length: usize,
+    pub reached: usize,
+    pub loose: usize,
 }
 
+// A fault of a build is told with the number of its kind's tracks.
 #[derive(Clone, Copy)]
 pub enum StripRefusal {
     Reading(Refusal),
@@ -26,9 +33,29 @@ pub enum StripRefusal {
     OutputTooShort(usize),
 }
 
-// The strip's length, the links followed and the loose records.
-#[derive(Clone, Copy)]
-pub enum Strip {
-    Built(usize, usize, usize),
-    Refused(StripRefusal),
+impl StripRefusal {
+    ghost use Rattle.strip_call.specs.Answers.{refusal_read};
+
+    pub(crate) fn of_build(block: Block, fault: Fault) -> StripRefusal
+        ensures { refusal_read result ≡ fault_of (kind_of block.kind) block.initials.count fault }
+    {
+        let count = block.initials.count;
+        match block.kind {
+            Kind::Bone => StripRefusal::Bones(count, fault),
+            Kind::Morph => StripRefusal::Morphs(count, fault),
+        }
+    }
+
+    // Document 01's number.
+    pub fn number(self) -> u8
+        ensures { result ≡ (refusal_read self).number }
+    {
+        match self {
+            StripRefusal::Reading(why) => number::reading_number(why),
+            StripRefusal::Bones(_, fault) => fault.number(),
+            StripRefusal::Morphs(_, fault) => fault.number(),
+            StripRefusal::WorkTooShort(_) => 17,
+            StripRefusal::OutputTooShort(_) => 18,
+        }
+    }
 }

@@ -1,51 +1,43 @@
-// Where a model section's bone and morph records stand.
+// Where a model section's records of a kind stand.
 ghost use Rattle.std.specs.Prelude.{◌≡◌};
-ghost use Rattle.strip_call.specs.Blocks.{bone_block, morph_block};
+ghost use Rattle.strip_call.specs.Blocks.{block_of, items_of, model_block};
 
 use chains::block::{Block, Kind};
 use order::field::Field;
+use section::keyframes::Keyframes;
 use section::model::Model;
 
-pub fn bone_block(m: Model) -> Block
-    ensures { result ≡ bone_block m }
+// As wide as document 01's record table says: 58 and 62 bytes of a bone, 17 and 21 of a morph.
+#[tactic(auto, unfolding(layout::specs::Records::size))]
+fn block(kind: Kind, tracks: usize, keyframes: Keyframes) -> Block
+    ensures { result ≡ block_of kind (items_of kind) tracks keyframes }
 {
-    let names = m.front.counts.bones;
-    let keyframes = m.keyframes.bones;
-    let tracks = names.count as usize;
-    let additional = keyframes.count as usize;
+    let (initial, additional) = match kind {
+        Kind::Bone => (58, 62),
+        Kind::Morph => (17, 21),
+    };
     Block {
-        kind: Kind::Bone,
+        kind,
         initials: Field {
             first: keyframes.initial_offset,
-            width: 58,
+            width: initial,
             count: tracks,
         },
         records: Field {
             first: keyframes.offset,
-            width: 62,
-            count: additional,
+            width: additional,
+            count: keyframes.count as usize,
         },
     }
 }
 
-pub fn morph_block(m: Model) -> Block
-    ensures { result ≡ morph_block m }
+#[tactic(auto, unfolding(crate::specs::Blocks::bone_block, crate::specs::Blocks::morph_block))]
+pub fn model_block(kind: Kind, m: &Model) -> Block
+    ensures { result ≡ model_block kind m.now }
 {
-    let names = m.front.counts.morphs;
-    let keyframes = m.keyframes.morphs;
-    let tracks = names.count as usize;
-    let additional = keyframes.count as usize;
-    Block {
-        kind: Kind::Morph,
-        initials: Field {
-            first: keyframes.initial_offset,
-            width: 17,
-            count: tracks,
-        },
-        records: Field {
-            first: keyframes.offset,
-            width: 21,
-            count: additional,
-        },
+    let counts = m.front.counts;
+    match kind {
+        Kind::Bone => block(kind, counts.bones.count as usize, m.keyframes.bones),
+        Kind::Morph => block(kind, counts.morphs.count as usize, m.keyframes.morphs),
     }
 }

@@ -5,77 +5,104 @@ ghost use Rattle.strip.specs.Strip.{count_width};
 ghost use Rattle.strip.specs.Call.{slices_tested, strip_call};
 ghost use Rattle.clip.specs.Section.{bones, morphs};
 ghost use Rattle.strip_call.specs.Answers.{Says};
-ghost use Rattle.strip_call.specs.Outcomes.{outcome_of, parts_of, Refuses, Strippable, WasRead};
+ghost use Rattle.strip_call.specs.Outcomes.{outcome_of, parts_of, Leaves, Strippable, WasRead};
 
-use crate::answer::{BuiltClip, Strip, StripRefusal};
-use crate::{blocks, bytes, clip_build};
-use chains::block::Block;
+use crate::answer::{Built, StripRefusal};
+use crate::clip::Clip;
+use crate::{blocks, clip_build};
+use chains::block::{Kind, Records};
+use chains::chain::Chains;
+use chains::lookup::Indexed;
 use section::model;
 use section::model::{Model, ReadModel};
 
-// Refused: "3 to 15 and 18 leave the first A + B places of both u16 slices 0".
-fn refuse(why: StripRefusal, need: usize, first: &mut [u16], second: &mut [u16]) -> Strip
-    requires first_long_enough { need ≤ length first.old }
-    requires second_long_enough { need ≤ length second.old }
-    ensures { Refuses why need first.old second.old result first.new second.new }
-{
-    bytes::clear(first, need);
-    bytes::clear(second, need);
-    Strip::Refused(why)
-}
-
-// The section is read and the work slices are long enough.
-fn strip_blocks(
-    s: &[u8],
-    of_bones: Block,
-    of_morphs: Block,
+// The clip is built, and its strip written. A refusal leaves the work slices as the build left them.
+fn build_and_write<'a>(
+    of_bones: &Records<'a>,
+    of_morphs: &Records<'a>,
     first: &mut [u16],
     second: &mut [u16],
     output: &mut [u8],
-) -> Strip
-    requires { Strippable s.now of_bones of_morphs first.old second.old }
-    ensures { Says (outcome_of first.old second.old output.old (of_bones.records.count + of_morphs.records.count) (parts_of s.now of_bones of_morphs)) result first.new second.new output.new }
+) -> Result<Built, StripRefusal>
+    requires { Strippable of_bones.now of_morphs.now first.old second.old }
+    ensures { Leaves of_bones.now of_morphs.now first.old second.old output.old result first.new second.new output.new }
 {
-    let need = of_bones.records.count + of_morphs.records.count;
-    match clip_build::build_clip(s, of_bones, of_morphs, first, second) {
-        BuiltClip::Bones(count, fault) => {
-            refuse(StripRefusal::Bones(count, fault), need, first, second)
-        }
-        BuiltClip::Morphs(count, fault) => {
-            refuse(StripRefusal::Morphs(count, fault), need, first, second)
-        }
-        BuiltClip::Counted(reached, loose) => {
-            if bytes::strip_fits(s, of_bones, of_morphs, first, output.len()) {
-                let length = bytes::write_strip(s, of_bones, of_morphs, first, output);
-                return Strip::Built(length, reached, loose);
-            }
-            let length = bytes::strip_length(s, of_bones, of_morphs, first);
-            refuse(StripRefusal::OutputTooShort(length), need, first, second)
-        }
+    let counted = clip_build::build_clip(of_bones, of_morphs, first, second)?;
+    let middle = of_bones.block.records.count;
+    let end = middle + of_morphs.block.records.count;
+    let slots = &first[..];
+    let clip = Clip {
+        bones: Chains {
+            indexed: Indexed {
+                records: *of_bones,
+                slots: &slots[..middle],
+            },
+        },
+        morphs: Chains {
+            indexed: Indexed {
+                records: *of_morphs,
+                slots: &slots[middle..end],
+            },
+        },
+    };
+    if !clip.fits(output.len()) {
+        return Err(StripRefusal::OutputTooShort(clip.length()));
     }
+    let length = clip.write(output);
+    Ok(Built {
+        length,
+        reached: counted.reached,
+        loose: counted.loose,
+    })
+}
+
+// Refused: "3 to 15 and 18 leave the first A + B places of both u16 slices 0".
+fn strip_records(
+    of_bones: &Records,
+    of_morphs: &Records,
+    first: &mut [u16],
+    second: &mut [u16],
+    output: &mut [u8],
+) -> Result<Built, StripRefusal>
+    requires { Strippable of_bones.now of_morphs.now first.old second.old }
+    ensures { Says (outcome_of first.old second.old output.old (of_bones.now.block.records.count + of_morphs.now.block.records.count) (parts_of of_bones.now.section.now of_bones.now.block of_morphs.now.block)) result first.new second.new output.new }
+{
+    let built = build_and_write(of_bones, of_morphs, first, second, output);
+    if built.is_err() {
+        let need = of_bones.block.records.count + of_morphs.block.records.count;
+        first[..need].fill(0);
+        second[..need].fill(0);
+    }
+    built
 }
 
 // The section is read.
 fn strip_model(
     s: &[u8],
-    m: Model,
+    m: &Model,
     first: &mut [u16],
     second: &mut [u16],
     output: &mut [u8],
-) -> Strip
-    requires { WasRead s.now m }
-    ensures { Says (slices_tested first.old second.old output.old count_width s.now m ((bones s.now m).additional + (morphs s.now m).additional)) result first.new second.new output.new }
+) -> Result<Built, StripRefusal>
+    requires { WasRead s.now m.now }
+    ensures { Says (slices_tested first.old second.old output.old count_width s.now m.now ((bones s.now m.now).additional + (morphs s.now m.now).additional)) result first.new second.new output.new }
 {
-    let of_bones = blocks::bone_block(m);
-    let of_morphs = blocks::morph_block(m);
-    let need = of_bones.records.count + of_morphs.records.count;
+    let of_bones = Records {
+        section: s,
+        block: blocks::model_block(Kind::Bone, m),
+    };
+    let of_morphs = Records {
+        section: s,
+        block: blocks::model_block(Kind::Morph, m),
+    };
+    let need = of_bones.block.records.count + of_morphs.block.records.count;
     if first.len() < need {
-        return Strip::Refused(StripRefusal::WorkTooShort(need));
+        return Err(StripRefusal::WorkTooShort(need));
     }
     if second.len() < need {
-        return Strip::Refused(StripRefusal::WorkTooShort(need));
+        return Err(StripRefusal::WorkTooShort(need));
     }
-    strip_blocks(s, of_bones, of_morphs, first, second, output)
+    strip_records(&of_bones, &of_morphs, first, second, output)
 }
 
 // Document 01, "The strip": every section, start and slices are taken.
@@ -85,11 +112,11 @@ pub fn strip(
     first: &mut [u16],
     second: &mut [u16],
     output: &mut [u8],
-) -> Strip
+) -> Result<Built, StripRefusal>
     ensures { Says (strip_call edition1 count_width section.now start first.old second.old output.old) result first.new second.new output.new }
 {
     match model::read_model(section, start) {
-        ReadModel::Refused(why) => Strip::Refused(StripRefusal::Reading(why)),
-        ReadModel::Read(m, _) => strip_model(section, m, first, second, output),
+        ReadModel::Refused(why) => Err(StripRefusal::Reading(why)),
+        ReadModel::Read(m, _) => strip_model(section, &m, first, second, output),
     }
 }

@@ -1,48 +1,49 @@
 // Document 01, module 5: all bones, then all morphs, in the parts of the work slices that belong to each kind.
 ghost use Rattle.std.specs.Prelude.{◌≡◌, ◌+◌, ◌≤◌, length};
-ghost use Rattle.chains.specs.Block.{Fits};
-ghost use Rattle.strip_call.specs.Building.{Builds, ClipBuilds};
+ghost use Rattle.strip_call.specs.Building.{PartBuilds, ClipBuilds};
 ghost use Rattle.strip_call.specs.Parts.{part, Outside};
 
-use crate::answer::{BuiltClip, BuiltKind};
+use crate::answer::{Counted, StripRefusal};
 use crate::build;
-use chains::block::Block;
+use chains::block::Records;
 
 // The build of one kind in the places from one on.
-fn build_part(s: &[u8], b: Block, from: usize, first: &mut [u16], second: &mut [u16]) -> BuiltKind
-    requires fits { Fits s.now b }
-    requires first_long_enough { from + b.records.count ≤ length first.old }
-    requires second_long_enough { from + b.records.count ≤ length second.old }
-    ensures builds { Builds s.now b (part from b.records.count first.new) (part from b.records.count second.new) result }
-    ensures first_outside { Outside from b.records.count first.old first.new }
-    ensures second_outside { Outside from b.records.count second.old second.new }
+fn build_part(
+    records: &Records,
+    from: usize,
+    first: &mut [u16],
+    second: &mut [u16],
+) -> Result<Counted, StripRefusal>
+    requires first_long_enough { from + records.now.block.records.count ≤ length first.old }
+    requires second_long_enough { from + records.now.block.records.count ≤ length second.old }
+    ensures builds { PartBuilds records.now.section.now records.now.block (part from records.now.block.records.count first.new) (part from records.now.block.records.count second.new) result }
+    ensures first_outside { Outside from records.now.block.records.count first.old first.new }
+    ensures second_outside { Outside from records.now.block.records.count second.old second.new }
 {
-    let end = from + b.records.count;
-    build::build_kind(s, b, &mut first[from..end], &mut second[from..end])
+    let end = from + records.block.records.count;
+    match build::build_kind(records, &mut first[from..end], &mut second[from..end]) {
+        Ok(counted) => Ok(counted),
+        Err(fault) => Err(StripRefusal::of_build(records.block, fault)),
+    }
 }
 
 pub fn build_clip(
-    s: &[u8],
-    bones: Block,
-    morphs: Block,
+    bones: &Records,
+    morphs: &Records,
     first: &mut [u16],
     second: &mut [u16],
-) -> BuiltClip
-    requires bones_fit { Fits s.now bones }
-    requires morphs_fit { Fits s.now morphs }
-    requires first_long_enough { bones.records.count + morphs.records.count ≤ length first.old }
-    requires second_long_enough { bones.records.count + morphs.records.count ≤ length second.old }
-    ensures builds { ClipBuilds s.now bones morphs first.new second.new result }
-    ensures first_outside { Outside 0 (bones.records.count + morphs.records.count) first.old first.new }
-    ensures second_outside { Outside 0 (bones.records.count + morphs.records.count) second.old second.new }
+) -> Result<Counted, StripRefusal>
+    requires one_section { morphs.now.section.now ≡ bones.now.section.now }
+    requires first_long_enough { bones.now.block.records.count + morphs.now.block.records.count ≤ length first.old }
+    requires second_long_enough { bones.now.block.records.count + morphs.now.block.records.count ≤ length second.old }
+    ensures builds { ClipBuilds bones.now.section.now bones.now.block morphs.now.block first.new second.new result }
+    ensures first_outside { Outside 0 (bones.now.block.records.count + morphs.now.block.records.count) first.old first.new }
+    ensures second_outside { Outside 0 (bones.now.block.records.count + morphs.now.block.records.count) second.old second.new }
 {
-    match build_part(s, bones, 0, first, second) {
-        BuiltKind::Refused(fault) => BuiltClip::Bones(bones.initials.count, fault),
-        BuiltKind::Counted(reached, loose) => {
-            match build_part(s, morphs, bones.records.count, first, second) {
-                BuiltKind::Refused(fault) => BuiltClip::Morphs(morphs.initials.count, fault),
-                BuiltKind::Counted(more, left) => BuiltClip::Counted(reached + more, loose + left),
-            }
-        }
-    }
+    let of_bones = build_part(bones, 0, first, second)?;
+    let of_morphs = build_part(morphs, bones.block.records.count, first, second)?;
+    Ok(Counted {
+        reached: of_bones.reached + of_morphs.reached,
+        loose: of_bones.loose + of_morphs.loose,
+    })
 }

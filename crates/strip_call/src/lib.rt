@@ -5,7 +5,7 @@
 pub mod answer;
 mod blocks;
 mod build;
-mod bytes;
 pub mod call;
+mod clip;
 mod clip_build;
 pub mod number;

@@ -4,85 +4,78 @@ use native.Mathlib.Numerals.{add-one}
 use native.Mathlib.Omega.{arith}
 use mathlib.Core.Bool.{Bool, true, false}
 use mathlib.Core.List.{List}
-use mathlib.Core.Path.{◌≡◌, sym, ap, ◌∙◌, subst}
+use mathlib.Core.Path.{◌≡◌, refl, sym, ap, ◌∙◌, subst}
 use lib.ListN.{length, get_or}
 use Rattle.order.specs.Field.{Within, AllBelow}
 use Rattle.order.specs.Find.{NumbersRise}
 use Rattle.order.specs.Sorted.{times, Sorted}
-use Rattle.order.specs.Repeat.{FirstRepeat, number_at}
+use Rattle.order.specs.Repeat.{FirstRepeat, Repeats, number_at}
 use Rattle.order.specs.Met.{Meets}
 use Rattle.order.proofs.Meeting.{MetFirst, met-none, met-rise, met-more, met-before, met-never}
-use Rattle.clip.specs.Scan.{record_of}
 use Rattle.chains.specs.Block.{links}
-use Rattle.chains.specs.Lookup.{found_read}
-use Rattle.track_keys.specs.Frames.{chain_at, frames_at, Ends}
+use Rattle.chains.specs.Chain.{chain_at, Ends}
 use Rattle.chains.specs.declared.block.Block.{Block}
-use Rattle.chains.specs.declared.lookup.Found.{Found}
-use Rattle.track_keys.proofs.ListedChain.{chain-below}
-use Rattle.track_keys.proofs.ChainFrames.{frame_field, frame-field, frame_is, chain-once}
-use Rattle.track_keys.proofs.Followed.{Followed, follow-starts, follow-frame, follow-repeat, follow-more}
+use Rattle.chains.proofs.AlongChain.{chain-below}
+use Rattle.track_keys.specs.Frames.{frames_at}
+use Rattle.track_keys.proofs.ChainFrames.{frame_field, frame-field, frame_is, held-once}
+use Rattle.track_keys.proofs.FirstRepeats.{none-repeated, apart-one, repeat-here, apart-more}
 
--- The frames of keys 1 to i are met.
-pub record Again (s : List ℕ) (b : Block) (track : ℕ) (sorted list : List ℕ) (link i : ℕ) : Type 0 where
-  pub followed : Followed s b track link i
+-- The first i records of the chain are passed: their frames are met, and none of keys 0 to i is repeated.
+pub record Again (s : List ℕ) (b : Block) (track : ℕ) (sorted list : List ℕ) (i : ℕ) : Type 0 where
+  pub apart : Repeats (frames_at s b track) (i + 1) false
   pub met : MetFirst s (frame_field b) (chain_at s b track) sorted list i
 
 -- The list held the chain, and was sorted.
 module _ {s : List ℕ} {b : Block} {slots : List ℕ} {track : ℕ} (x : Ends s b slots track) {before after : List ℕ} (held : before ≡ chain_at s b track) (sorted : Sorted s (frame_field b) before after) where
-  abbrev many : ℕ
-  many = length (chain_at s b track)
-
   within : Within s (frame_field b)
   within = frame-field s b x.ordered.fits
 
   below : AllBelow b.records.count (chain_at s b track)
-  below = chain-below s b slots track x
+  below = chain-below x
 
   once : (p : ℕ) → times p (chain_at s b track) ≤ 1
-  once = chain-once s b slots track x
+  once = held-once s b track refl x
 
   chain-sorted : Sorted s (frame_field b) (chain_at s b track) after
   chain-sorted = subst (λ (ps : List ℕ). Sorted s (frame_field b) ps after) held sorted
 
-  pub again-starts : {link : ℕ} → link ≡ ((links s b).initial track).next → Again s b track after after link 0
-  again-starts is = record {
-    followed = follow-starts s b track is;
+  pub again-starts : Again s b track after after 0
+  again-starts = record {
+    apart = apart-one (frames_at s b track);
     met = met-none s (frame_field b) within (chain_at s b track) after chain-sorted below once;
   }
 
-  module _ {list : List ℕ} {link i : ℕ} (a : Again s b track after list link i) where
+  module _ {list : List ℕ} {i : ℕ} (a : Again s b track after list i) where
     pub again-rise : NumbersRise s (frame_field b) list
     again-rise = met-rise s (frame_field b) within (chain_at s b track) after chain-sorted below once list i a.met
 
     pub again-long : length list ≡ length before
     again-long = a.met.length ∙ sorted.length
 
-    module _ (front : i < length before) (f : Found) (contract : found_read f ≡ record_of (links s b) link) {p place : ℕ} (seen : f ≡ Found.At p place) {frame : ℕ} (is : frame ≡ ((links s b).at p).frame) {first : ℕ} (initial : first ≡ ((links s b).initial track).frame) where
-      here : frame ≡ frames_at s b track (i + 1)
-      here = follow-frame x (ap length held) a.followed front f contract seen is
+    -- Where all records are passed, no frame is repeated.
+    pub again-end : i ≡ length before → FirstRepeat (frames_at s b track) (length before + 1) (length before + 1)
+    again-end all = none-repeated (frames_at s b track) (length before + 1) (λ j k lt inside. a.apart j k lt (omega (arith, inside, all)))
 
+    module _ (front : i < length before) {frame : ℕ} (here : frame ≡ frames_at s b track (i + 1)) {first : ℕ} (initial : first ≡ ((links s b).initial track).frame) where
       number : frame ≡ number_at s (frame_field b) (chain_at s b track) i
       number = here ∙ ap (frames_at s b track) (add-one i) ∙ sym (frame_is s b (get_or (chain_at s b track) i 0))
 
-      told : (k : ℕ) → k < i + 1 → frames_at s b track k ≡ frame → FirstRepeat (frames_at s b track) (many + 1) (i + 1)
-      told = follow-repeat x (ap length held) a.followed front f contract seen is
-
-      pub again-first : frame ≡ first → FirstRepeat (frames_at s b track) (many + 1) (i + 1)
-      again-first same = told 0 (omega arith) (sym (same ∙ initial))
+      pub again-first : frame ≡ first → FirstRepeat (frames_at s b track) (length before + 1) (i + 1)
+      again-first same = repeat-here (frames_at s b track) i a.apart here front 0 (omega arith) (sym (same ∙ initial))
 
       module _ {list' : List ℕ} {r : Bool} (meets : Meets s (frame_field b) frame list list' r) where
-        pub again-met : r ≡ true → FirstRepeat (frames_at s b track) (many + 1) (i + 1)
+        pub again-met : r ≡ true → FirstRepeat (frames_at s b track) (length before + 1) (i + 1)
         again-met taken =
             let at = met-before s (frame_field b) within (chain_at s b track) after chain-sorted below once list i a.met frame number list' r meets taken in
-            told (suc at.0) (omega (arith, at.1)) (sym (frame_is s b (get_or (chain_at s b track) at.0 0)) ∙ at.2)
+            repeat-here (frames_at s b track) i a.apart here front (suc at.0) (omega (arith, at.1)) (sym (frame_is s b (get_or (chain_at s b track) at.0 0)) ∙ at.2)
 
-        pub again-more : (frame ≡ first → ⊥) → r ≡ false → {next : ℕ} → next ≡ ((links s b).at p).next → Again s b track after list' next (i + 1)
-        again-more other left to = record {
-          followed = follow-more x (ap length held) a.followed front f contract seen is new to;
+        pub again-more : (frame ≡ first → ⊥) → r ≡ false → Again s b track after list' (i + 1)
+        again-more other left = record {
+          apart = apart-more (frames_at s b track) i a.apart here new;
           met = met-more s (frame_field b) within (chain_at s b track) after chain-sorted below once list i a.met frame number list' r meets;
         }
           where
-            inside : i < many
+            inside : i < length (chain_at s b track)
             inside = subst (λ (ps : List ℕ). i < length ps) held front
 
             new : (j : ℕ) → j < i + 1 → frames_at s b track j ≡ frame → ⊥

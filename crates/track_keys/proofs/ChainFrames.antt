@@ -2,13 +2,12 @@
 use Prim.Native.Nat.{ℕ, zero, suc, ◌+◌, ◌≤◌, ◌<◌}
 use native.Mathlib.Numerals.{add-one}
 use native.Mathlib.Omega.{arith}
-use mathlib.Core.Bool.{Bool, true, false, cond, not, ◌||◌}
+use mathlib.Core.Bool.{Bool, true, false, cond, ◌||◌}
 use mathlib.Core.List.{List, [], ◌∷◌}
 use mathlib.Core.Path.{◌≡◌, refl, sym, ap, ◌∙◌, subst}
 use borrow.Author.Tests.{eqb-true}
 use lib.Dec.{eqb}
-use lib.ListN.{length, take, get_or}
-use lib.Seq.{get_or-take}
+use lib.ListN.{length, get_or}
 use Rattle.layout.specs.Walk.{u32_at}
 use Rattle.order.specs.declared.field.Field.{Field}
 use Rattle.order.specs.Field.{number_of, Within, AllBelow}
@@ -19,11 +18,13 @@ use Rattle.clip.specs.First.{member}
 use Rattle.clip.specs.Section.{additional_at}
 use Rattle.clip.proofs.Counting.{Distinct}
 use Rattle.chains.specs.Block.{Fits, links}
-use Rattle.track_keys.specs.Tracks.{frames_of}
-use Rattle.track_keys.specs.Frames.{chain_at, frames_at, Ends, Rising}
+use Rattle.chains.specs.Chain.{chain_at, Ends}
+use Rattle.chains.proofs.AlongChain.{chain-below}
+use Rattle.track_keys.specs.Frames.{frames_at, Rising}
 use Rattle.chains.specs.declared.block.Block.{Block}
 use Rattle.track_keys.proofs.FirstRepeats.{none-repeated, rising-more}
-use Rattle.track_keys.proofs.ListedChain.{chain-below, chain-distinct}
+use Rattle.track_keys.proofs.Numbered.{Turn}
+use Rattle.track_keys.proofs.ListedChain.{chain-distinct}
 
 member-none : (x : ℕ) (ps : List ℕ) → member x ps ≡ false → times x ps ≡ 0
 unfolding member times
@@ -58,29 +59,37 @@ module _ (s : List ℕ) (b : Block) where
   unfolding number_of additional_at
   frame_is p = ap (λ (at : ℕ). u32_at s at) (omega arith)
 
+-- The record that stands at a place of the chain.
+pub chain-frame : (s : List ℕ) (b : Block) (track : ℕ) {n i p : ℕ} → Turn (chain_at s b track) n i p → {frame : ℕ} → frame ≡ ((links s b).at p).frame → frame ≡ frames_at s b track (n + 1)
+chain-frame s b track {n} t is = is ∙ ap (λ (q : ℕ). ((links s b).at q).frame) t.is ∙ ap (frames_at s b track) (sym (add-one n))
+
+pub turn-below : {s : List ℕ} {b : Block} {slots : List ℕ} {track : ℕ} → Ends s b slots track → {n i p : ℕ} → Turn (chain_at s b track) n i p → p < b.records.count
+turn-below {b = b} x {n} t = subst (λ (q : ℕ). q < b.records.count) (sym t.is) (chain-below x n t.inside)
+
+-- A list that holds the chain.
+module _ (s : List ℕ) (b : Block) (track : ℕ) {list : List ℕ} (held : list ≡ chain_at s b track) where
+  -- The frame of the record at a place.
+  pub held-frame : (i : ℕ) {frame : ℕ} → frame ≡ ((links s b).at (get_or list i 0)).frame → frame ≡ frames_at s b track (i + 1)
+  held-frame i is = is ∙ ap (λ (ps : List ℕ). ((links s b).at (get_or ps i 0)).frame) held ∙ ap (frames_at s b track) (sym (add-one i))
+
   -- One record more, whose frame is above the last one.
-  pub rising-record : (track n : ℕ) (list : List ℕ) (i last frame : ℕ) → last ≡ frames_of (links s b) track (take n list) i → Rising (frames_of (links s b) track (take n list)) n i → i < n → frame ≡ ((links s b).at (get_or list i 0)).frame → last < frame → (frame ≡ frames_of (links s b) track (take n list) (i + 1)) × Rising (frames_of (links s b) track (take n list)) n (i + 1)
-  rising-record track n list i last frame is x lt here up =
-      let next : frame ≡ frames_of (links s b) track (take n list) (i + 1) = here ∙ ap (λ p. ((links s b).at p).frame) (sym (get_or-take n list i 0 lt)) ∙ ap (frames_of (links s b) track (take n list)) (sym (add-one i)) in
-      (next, rising-more (frames_of (links s b) track (take n list)) n i x lt (omega (arith, is, next, up)))
+  pub rising-record : {i last frame : ℕ} → last ≡ frames_at s b track i → Rising (frames_at s b track) (length list) i → i < length list → frame ≡ ((links s b).at (get_or list i 0)).frame → last < frame → (frame ≡ frames_at s b track (i + 1)) × Rising (frames_at s b track) (length list) (i + 1)
+  rising-record {i} is x lt here up =
+      let next = held-frame i here in
+      (next, rising-more (frames_at s b track) (length list) i x lt (omega (arith, is, next, up)))
 
-  pub chain-once : (slots : List ℕ) (track : ℕ) → Ends s b slots track → (p : ℕ) → times p (chain_at s b track) ≤ 1
-  chain-once slots track x p = distinct-once p (chain_at s b track) (chain-distinct s b slots track x)
+  module _ {slots : List ℕ} (x : Ends s b slots track) where
+    pub held_below : AllBelow b.records.count list
+    held_below = rw held (chain-below x)
 
--- A list that holds the chain, to be sorted.
-module _ {s : List ℕ} {b : Block} {slots : List ℕ} {track : ℕ} (x : Ends s b slots track) {list : List ℕ} (held : list ≡ chain_at s b track) where
-  pub held_below : AllBelow b.records.count list
-  held_below = rw held (chain-below s b slots track x)
-
-  pub held-once : (p : ℕ) → times p list ≤ 1
-  held-once = rw held (chain-once s b slots track x)
+    pub held-once : (p : ℕ) → times p list ≤ 1
+    held-once p = rw held (distinct-once p (chain_at s b track) (chain-distinct x))
 
   -- No frame is repeated if sorting finds none.
-  pub held-apart : {first : ℕ} → first ≡ ((links s b).initial track).frame → (r : Bool) → Repeats (with_first first s (frame_field b) list) (length list + 1) r → not r ≡ true → FirstRepeat (frames_at s b track) (length (chain_at s b track) + 1) (length list + 1)
-  held-apart initial true told none = absurd (let z : ◌≡◌ {A = ℕ} 0 1 = cc in omega arith)
+  pub held-apart : {first : ℕ} → first ≡ ((links s b).initial track).frame → (r : Bool) → Repeats (with_first first s (frame_field b) list) (length list + 1) r → r ≡ false → FirstRepeat (frames_at s b track) (length list + 1) (length list + 1)
+  held-apart initial true told none = cc
   held-apart {first} initial false apart none =
-      subst (λ (ps : List ℕ). FirstRepeat (frames_at s b track) (length ps + 1) (length list + 1)) held
-      (none-repeated (frames_at s b track) (length list + 1) (λ i j lt inside e. apart i j lt inside (same i ∙ e ∙ sym (same j))))
+      none-repeated (frames_at s b track) (length list + 1) (λ i j lt inside e. apart i j lt inside (same i ∙ e ∙ sym (same j)))
     where
       same : (i : ℕ) → with_first first s (frame_field b) list i ≡ frames_at s b track i
       same zero = initial

@@ -1,8 +1,8 @@
 pub mod KeysAsked
 pub mod FirstRepeats
 pub mod ListedChain
+pub mod Numbered
 pub mod ChainFrames
-pub mod Followed
 pub mod Again
 pub mod CloseFrames
 pub mod Meets

@@ -8,7 +8,6 @@ use mathlib.Core.Path.{◌≡◌, refl, sym, ap, subst}
 use borrow.Author.Tests.{eqb-true, eqb-false, eq-eqb}
 use lib.Dec.{eqb}
 use lib.ListN.{length, get_or, take}
-use lib.Seq.{get_or-take}
 use Rattle.layout.specs.Walk.{Refusal, declined}
 use Rattle.clip.specs.First.{◌or◌, member}
 use Rattle.clip.specs.Chain.{chain}
@@ -51,9 +50,6 @@ module _ (s : List ℕ) (b : Block) where
     initial-meets = rw (chain-listed, listed)
 
     module _ (inside : (i : ℕ) → i < n → i < length (take n list)) (again : ℕ) (repeat : FirstRepeat (frames_of (links s b) track (take n list)) (n + 1) again) (i : ℕ) (lt : i < n) (before : i < again) where
-      place_is : get_or list i 0 ≡ get_or (take n list) i 0
-      place_is = sym (get_or-take n list i 0 lt)
-
       repeated : member (frames_of (links s b) track (take n list) (suc i)) (earlier (frames_of (links s b) track (take n list)) (suc i)) ≡ eqb (i + 1) again
       repeated = go (eqb (i + 1) again) refl
         where
@@ -61,9 +57,9 @@ module _ (s : List ℕ) (b : Block) where
           go true e = let same = eqb-true (i + 1) again e in repeated-is (frames_of (links s b) track (take n list)) (n + 1) again (suc i) repeat (omega (arith, same)) (omega (arith, lt))
           go false e = let other = eqb-false (i + 1) again e in repeated-not (frames_of (links s b) track (take n list)) (n + 1) again (suc i) repeat (omega (arith, other, before))
 
-      pub record-meets : left s b track (take n list) i ≡ (key_meets s b.kind track ((links s b).at (get_or list i 0)).frame ((links s b).at (get_or list i 0)).body (eqb (i + 1) again) or left s b track (take n list) (suc i))
+      pub record-meets : left s b track (take n list) i ≡ (key_meets s b.kind track ((links s b).at (get_or (take n list) i 0)).frame ((links s b).at (get_or (take n list) i 0)).body (eqb (i + 1) again) or left s b track (take n list) (suc i))
       unfolding key_test
       record-meets =
           let new = never-shared (kind_of b.kind) (links s b) ordered.indexed track is-track (get_or (take n list) i 0) (subst (λ (l : List ℕ). member (get_or (take n list) i 0) l ≡ true) (sym chain-listed) (member-place (take n list) i (inside i lt))) in
           let step = one (kind_of b.kind) (asked_at s b.kind) (links s b) track (take n list) i (inside i lt) new in
-          rw (place_is, sym repeated) step
+          rw (sym repeated) step

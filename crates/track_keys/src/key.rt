@@ -9,41 +9,51 @@ ghost use Rattle.track_keys.specs.Keys.{frame_meets, asked_at, key_meets};
 ghost use Rattle.track_keys.specs.MorphKeys.{morph_key_read, morph_key};
 ghost use Rattle.chains.specs.declared.block.Kind.{Kind};
 
-use chains::block::{Block, Kind};
-use chains::fault::{BoneIndex, Fault, Met, MorphIndex};
+use chains::block::{Kind, Records};
+use chains::fault::{BoneIndex, Fault, MorphIndex};
+use keys::body::{BoneBody, MorphBody};
 use keys::pose;
-use keys::pose::Asked;
+use keys::pose::PoseFault;
 
-// Document 01: a morph key is answered as its frame and weight, or as the refusal that it met.
+// Document 01: a morph key is answered as its frame and weight, or as the refusal that it met. An enum of its own, as document 01 names it
+// ("Forms by place in the code").
 #[derive(Clone, Copy)]
 pub enum MorphKey {
     Key(u32, f32),
     Refused(Fault),
 }
 
-fn frame_asked(track: u32, frame: u32, repeated: bool) -> Met
+fn frame_asked(track: u32, frame: u32, repeated: bool) -> Result<(), Fault>
     ensures { (kind : Fields.Kind) (count : ℕ) → met_read kind count result ≡ frame_meets kind track frame repeated }
 {
     if 2147483648 <= frame {
-        return Met::Refused(Fault::NegativeFrame(track as usize, frame));
+        return Err(Fault::NegativeFrame(track as usize, frame));
     }
     if repeated {
-        return Met::Refused(Fault::RepeatedFrame(track as usize, frame));
+        return Err(Fault::RepeatedFrame(track as usize, frame));
     }
-    Met::Nothing
+    Ok(())
 }
 
-fn bone_key(s: &[u8], track: BoneIndex, frame: u32, body: usize, repeated: bool) -> Met
+fn bone_key(
+    s: &[u8],
+    track: BoneIndex,
+    frame: u32,
+    body: usize,
+    repeated: bool,
+) -> Result<(), Fault>
     requires { body + 44 ≤ length s.now }
     ensures { (count : ℕ) → met_read bone count result ≡ key_meets s.now Kind.Bone track.0 frame body repeated }
 {
-    match frame_asked(track.0, frame, repeated) {
-        Met::Refused(fault) => Met::Refused(fault),
-        Met::Nothing => match pose::bone_asked(s, body) {
-            Asked::Fine => Met::Nothing,
-            Asked::Translation => Met::Refused(Fault::Translation(track, frame)),
-            Asked::Orientation => Met::Refused(Fault::Orientation(track, frame)),
-        },
+    frame_asked(track.0, frame, repeated)?;
+    let body = BoneBody {
+        section: s,
+        at: body,
+    };
+    match body.asked() {
+        Ok(()) => Ok(()),
+        Err(PoseFault::Translation) => Err(Fault::Translation(track, frame)),
+        Err(PoseFault::Orientation) => Err(Fault::Orientation(track, frame)),
     }
 }
 
@@ -51,31 +61,42 @@ pub fn morph_key(s: &[u8], track: MorphIndex, frame: u32, body: usize, repeated:
     requires { body + 4 ≤ length s.now }
     ensures { (count : ℕ) → morph_key_read count result ≡ morph_key s.now track.0 frame body repeated }
 {
-    match frame_asked(track.0, frame, repeated) {
-        Met::Refused(fault) => MorphKey::Refused(fault),
-        Met::Nothing => {
-            let weight = pose::weight_at(s, body);
-            if pose::finite(weight) {
-                MorphKey::Key(frame, weight)
-            } else {
-                MorphKey::Refused(Fault::Weight(track, frame))
-            }
-        }
+    if let Err(fault) = frame_asked(track.0, frame, repeated) {
+        return MorphKey::Refused(fault);
+    }
+    let body = MorphBody {
+        section: s,
+        at: body,
+    };
+    let weight = body.weight();
+    if pose::finite(weight) {
+        MorphKey::Key(frame, weight)
+    } else {
+        MorphKey::Refused(Fault::Weight(track, frame))
     }
 }
 
-pub fn key(s: &[u8], b: Block, track: usize, frame: u32, body: usize, repeated: bool) -> Met
-    requires kind_in_bounds { body + body_size b.kind ≤ length s.now }
+pub fn key(
+    records: &Records,
+    track: usize,
+    frame: u32,
+    body: usize,
+    repeated: bool,
+) -> Result<(), Fault>
+    requires kind_in_bounds { body + body_size records.now.block.kind ≤ length records.now.section.now }
     requires track_bound { track < 4294967296 }
-    ensures { met_read (kind_of b.kind) b.initials.count result ≡ key_meets s.now b.kind track frame body repeated }
+    ensures { met_read (kind_of records.now.block.kind) records.now.block.initials.count result ≡ key_meets records.now.section.now records.now.block.kind track frame body repeated }
 {
-    let kind = b.kind;
+    let kind = records.block.kind;
+    let section = records.section;
     match kind {
-        Kind::Bone => bone_key(s, BoneIndex(track as u32), frame, body, repeated),
-        Kind::Morph => match morph_key(s, MorphIndex(track as u32), frame, body, repeated) {
-            MorphKey::Key(_, _) => Met::Nothing,
-            MorphKey::Refused(fault) => Met::Refused(fault),
-        },
+        Kind::Bone => bone_key(section, BoneIndex(track as u32), frame, body, repeated),
+        Kind::Morph => {
+            match morph_key(section, MorphIndex(track as u32), frame, body, repeated) {
+                MorphKey::Key(_, _) => Ok(()),
+                MorphKey::Refused(fault) => Err(fault),
+            }
+        }
     }
 }
 
@@ -85,23 +106,30 @@ fn body_fine(s: &[u8], kind: Kind, body: usize) -> bool
     ensures { result ≡ true → none ≡ asked_at s.now kind body }
 {
     match kind {
-        Kind::Bone => match pose::bone_asked(s, body) {
-            Asked::Fine => true,
-            Asked::Translation => false,
-            Asked::Orientation => false,
-        },
-        Kind::Morph => pose::finite(pose::weight_at(s, body)),
+        Kind::Bone => {
+            let bone = BoneBody {
+                section: s,
+                at: body,
+            };
+            bone.asked().is_ok()
+        }
+        Kind::Morph => {
+            let morph = MorphBody {
+                section: s,
+                at: body,
+            };
+            pose::finite(morph.weight())
+        }
     }
 }
 
 // Whether a key whose frame is not repeated meets nothing, as nearly every key does; what another meets is worked out only then.
-pub fn fine(s: &[u8], b: Block, frame: u32, body: usize) -> bool
-    requires { body + body_size b.kind ≤ length s.now }
-    ensures { result ≡ true → (track : ℕ) → none ≡ key_meets s.now b.kind track frame body false }
+pub fn fine(records: &Records, frame: u32, body: usize) -> bool
+    requires { body + body_size records.now.block.kind ≤ length records.now.section.now }
+    ensures { result ≡ true → (track : ℕ) → none ≡ key_meets records.now.section.now records.now.block.kind track frame body false }
 {
     if 2147483648 <= frame {
         return false;
     }
-    let kind = b.kind;
-    body_fine(s, kind, body)
+    body_fine(records.section, records.block.kind, body)
 }

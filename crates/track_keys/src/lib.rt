@@ -5,4 +5,5 @@ mod close;
 pub mod frames;
 pub mod key;
 pub mod ready;
+mod span;
 pub mod tracks;

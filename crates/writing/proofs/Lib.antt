@@ -1,5 +1,4 @@
 pub mod OfKind
-pub mod Following
 pub mod Sums
 pub mod Measuring
 pub mod Filling

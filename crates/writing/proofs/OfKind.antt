@@ -3,7 +3,7 @@ use Prim.Native.Nat.{ℕ, ◌+◌, ◌≤◌}
 use native.Mathlib.Omega.{arith}
 use mathlib.Core.Bool.{Bool, true, false, cond}
 use mathlib.Core.List.{List, [], ◌∷◌}
-use mathlib.Core.Path.{◌≡◌, refl, sym, ◌∙◌, subst}
+use mathlib.Core.Path.{◌≡◌, refl, sym, subst}
 use lib.ListN.{length}
 use Rattle.clip.specs.Keys.{Key}
 use Rattle.strip.specs.Plain.{Group}
@@ -51,10 +51,3 @@ module _ (s : List ℕ) where
       widths-most : (kind : Kind) → widths (groups_of kind) ≤ 44
       widths-most Kind.Bone = omega arith
       widths-most Kind.Morph = omega arith
-
--- The key of a record is known by its frame and where its body stands.
-pub key-is : (key : Key ℕ) (at frame : ℕ) → at ≡ key.body → frame ≡ key.frame → ◌≡◌ {A = Key ℕ} (record { frame = frame; body = at }) key
-key-is key at frame eb ef = rw (eb, ef)
-
-pub length-is : (s : List ℕ) (kind : Kind) (key : Key ℕ) (n at : ℕ) → at ≡ key.body → n ≡ length (key_at s kind (record { frame = 0; body = at })) → n ≡ length (key_at s kind key)
-length-is s kind key n at e l = l ∙ rw e (every-frame s kind key.body key.frame)

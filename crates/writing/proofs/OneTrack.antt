@@ -8,8 +8,9 @@ use Rattle.strip.specs.Keys.{little_endian}
 use Rattle.strip.proofs.Bytes.{length-little_endian}
 use Rattle.keys.specs.Placed.{placed, Room, Wrote}
 use Rattle.keys.proofs.Placing.{length-placed, room-front, room_back, room-behind, wrote_then, wrote-before}
+use Rattle.chains.specs.Chain.{chain_at}
 use Rattle.chains.specs.declared.block.Block.{Block}
-use Rattle.writing.specs.Tracks.{initial_bytes, records_bytes, chain_at, strip_track}
+use Rattle.writing.specs.Tracks.{initial_bytes, records_bytes, strip_track}
 use Rattle.writing.proofs.Sums.{track-parts}
 
 module _ (s : List ℕ) (b : Block) (track place : ℕ) (old : List ℕ) (room : Room place (strip_track s b track) old) where

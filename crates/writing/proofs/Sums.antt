@@ -6,7 +6,7 @@ use native.Mathlib.Decide.{ℕ_discrete}
 use native.Mathlib.Omega.{arith}
 use mathlib.Core.List.{List, [], ◌∷◌, ◌++◌, map, append_assoc, append-nil}
 use mathlib.Core.Path.{◌≡◌, refl, sym, ap, ◌∙◌}
-use lib.ListN.{length, get_or, take, length-append, length-map}
+use lib.ListN.{length, length-append, length-map}
 use Rattle.clip.specs.Keys.{Key}
 use Rattle.clip.specs.Build.{initial_key, record_key, keys}
 use Rattle.strip.specs.Plain.{Group}
@@ -14,8 +14,9 @@ use Rattle.strip.specs.Keys.{little_endian}
 use Rattle.strip.specs.Strip.{keys_bytes, track_bytes, tracks_bytes}
 use Rattle.strip.proofs.Bytes.{length-little_endian}
 use Rattle.chains.specs.Block.{links}
+use Rattle.chains.specs.Chain.{chain_at}
 use Rattle.chains.specs.declared.block.Block.{Block}
-use Rattle.writing.specs.Tracks.{groups_of, fields_at, initial_bytes, record_bytes, records_bytes, chain_at, keys_at, strip_track, first_tracks}
+use Rattle.writing.specs.Tracks.{groups_of, fields_at, initial_bytes, record_bytes, records_bytes, keys_at, strip_track, first_tracks}
 use Rattle.writing.proofs.OfKind.{key-most}
 
 module _ {B : Type 0} (width : ℕ) (groups : List Group) (fields_of : B → List (List ℕ)) (of : ℕ → List (Key B)) where
@@ -34,26 +35,21 @@ module _ (s : List ℕ) (b : Block) where
   unfolding keys_bytes
   no-records = refl
 
-  one_more : (ps : List ℕ) (n : ℕ) → n < length ps → records_bytes s b (take (suc n) ps) ≡ records_bytes s b (take n ps) ++ record_bytes s b (get_or ps n 0)
+  pub records-and : (ps : List ℕ) (p : ℕ) → records_bytes s b (ps ++ p ∷ []) ≡ records_bytes s b ps ++ record_bytes s b p
   unfolding keys_bytes
-  one_more [] n lt = absurd (omega arith)
-  one_more (p ∷ ps) zero lt = append-nil (record_bytes s b p)
-  one_more (p ∷ ps) (suc n) lt =
-      ap (λ (bs : List ℕ). record_bytes s b p ++ bs) (one_more ps n (omega arith))
-      ∙ sym (append_assoc (record_bytes s b p) (records_bytes s b (take n ps)) (record_bytes s b (get_or ps n 0)))
+  records-and [] p = append-nil (record_bytes s b p)
+  records-and (q ∷ ps) p =
+      ap (λ (bs : List ℕ). record_bytes s b q ++ bs) (records-and ps p)
+      ∙ sym (append_assoc (record_bytes s b q) (records_bytes s b ps) (record_bytes s b p))
 
-  pub records-more : (ps : List ℕ) (n : ℕ) → n < length ps → records_bytes s b (take (n + 1) ps) ≡ records_bytes s b (take n ps) ++ record_bytes s b (get_or ps n 0)
-  records-more ps n lt = rw add-one (one_more ps n lt)
-
-  pub records-within : (ps : List ℕ) (n : ℕ) → length (records_bytes s b (take n ps)) ≤ length (records_bytes s b ps)
+  -- The keys of some records are among those of these and others.
+  pub records-within : (ps qs : List ℕ) → length (records_bytes s b ps) ≤ length (records_bytes s b (ps ++ qs))
   unfolding keys_bytes
-  records-within [] zero = omega arith
-  records-within [] (suc n) = omega arith
-  records-within (p ∷ ps) zero = omega arith
-  records-within (p ∷ ps) (suc n) =
-      let short = length-append (record_bytes s b p) (records_bytes s b (take n ps)) in
-      let long = length-append (record_bytes s b p) (records_bytes s b ps) in
-      let rest = records-within ps n in
+  records-within [] qs = omega arith
+  records-within (p ∷ ps) qs =
+      let short = length-append (record_bytes s b p) (records_bytes s b ps) in
+      let long = length-append (record_bytes s b p) (records_bytes s b (ps ++ qs)) in
+      let rest = records-within ps qs in
       omega (arith, short, long, rest)
 
   pub records-most : (ps : List ℕ) → length (records_bytes s b ps) ≤ 49 * length ps

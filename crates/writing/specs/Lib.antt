@@ -1,2 +1,3 @@
 pub mod Tracks
-pub mod Along
+pub mod Key
+pub mod Chains

@@ -1,7 +1,7 @@
 -- Document 01, "The strip": the tracks of one kind in a strip, where a body is known by its offset in the section. Definitions only.
 use Rattle.std.specs.Prelude.{ℕ, List, map}
 use Rattle.clip.specs.Keys.{Key}
-use Rattle.clip.specs.Build.{initial_key, record_key, chain_of, keys}
+use Rattle.clip.specs.Build.{initial_key, record_key, keys}
 use Rattle.clip.specs.Section.{bone_body, morph_body}
 use Rattle.strip.specs.Plain.{Group, bone_groups, bone_fields, morph_groups, morph_fields}
 use Rattle.strip.specs.Keys.{key_bytes}
@@ -32,10 +32,6 @@ module _ (s : List ℕ) (b : Block) where
 
   abbrev pub records_bytes : List ℕ → List ℕ
   records_bytes ps = keys_bytes (groups_of b.kind) (fields_at s b.kind) (map (λ p. record_key ((links s b).at p)) ps)
-
-  -- The records of a track's chain.
-  abbrev pub chain_at : ℕ → List ℕ
-  chain_at t = chain_of (kind_of b.kind) (links s b) t
 
   -- "A track's keys are its initial record and its chain's records, in chain order."
   abbrev pub keys_at : ℕ → List (Key ℕ)

@@ -1,77 +1,71 @@
-// The keys of the two kinds of record.
+// A record's key, of either kind.
 ghost use Rattle.std.specs.Prelude.{◌≡◌, ◌+◌, ◌<◌, ◌≤◌, length};
-ghost use Rattle.keys.specs.Placed.{Room, Wrote};
-ghost use Rattle.chains.specs.Block.{Fits, body_size};
-ghost use Rattle.writing.specs.Tracks.{key_at, initial_bytes, record_bytes};
+ghost use Rattle.chains.specs.Block.{body_size};
 
-use chains::block;
-use chains::block::{Block, Kind};
-use keys::write;
+use chains::block::{Kind, Records};
+use keys::body::{BoneBody, MorphBody};
 
-// As long for every frame.
-fn key_length(s: &[u8], kind: Kind, at: usize) -> usize
-    requires { at + body_size kind ≤ length s.now }
-    ensures { result ≡ length (key_at s.now kind (record { frame = 0; body = at })) }
-{
-    match kind {
-        Kind::Bone => write::bone_key_length(s, at),
-        Kind::Morph => write::morph_key_length(s, at),
+// A frame, and where the body stands whole in the section.
+#[derive(Clone, Copy)]
+pub struct Key<'a> {
+    pub section: &'a [u8],
+    pub kind: Kind,
+    pub frame: u32,
+    pub at: usize,
+    ghost whole: { at + body_size kind ≤ length section.now },
+}
+
+impl<'a> Key<'a> {
+    ghost use Rattle.keys.specs.Placed.{Room, Wrote};
+    ghost use Rattle.writing.specs.Tracks.{initial_bytes, record_bytes};
+    ghost use Rattle.writing.specs.Key.{bytes_of};
+
+    // The key of a track's initial record.
+    pub fn initial(records: &Records<'a>, track: usize) -> Key<'a>
+        requires { track < records.now.block.initials.count }
+        ensures { bytes_of result ≡ initial_bytes records.now.section.now records.now.block track }
+    {
+        Key {
+            section: records.section,
+            kind: records.block.kind,
+            frame: records.first_frame(track),
+            at: records.first_body(track),
+        }
     }
-}
 
-fn write_key(s: &[u8], kind: Kind, at: usize, frame: u32, output: &mut [u8], place: usize) -> usize
-    requires kind_in_bounds { at + body_size kind ≤ length s.now }
-    requires room { Room place (key_at s.now kind (record { frame = frame; body = at })) output.old }
-    ensures { Wrote place (key_at s.now kind (record { frame = frame; body = at })) output.old result output.new }
-{
-    match kind {
-        Kind::Bone => write::write_bone_key(s, at, frame, output, place),
-        Kind::Morph => write::write_morph_key(s, at, frame, output, place),
+    // The key of the additional record at a position.
+    pub fn additional(records: &Records<'a>, p: usize) -> Key<'a>
+        requires { p < records.now.block.records.count }
+        ensures { bytes_of result ≡ record_bytes records.now.section.now records.now.block p }
+    {
+        Key {
+            section: records.section,
+            kind: records.block.kind,
+            frame: records.frame_at(p),
+            at: records.body_at(p),
+        }
     }
-}
 
-// The key of a track's initial record.
-pub fn initial_length(s: &[u8], b: Block, track: usize) -> usize
-    requires fits { Fits s.now b }
-    requires track_lt_count { track < b.initials.count }
-    ensures { result ≡ length (initial_bytes s.now b track) }
-{
-    let kind = b.kind;
-    let at = block::first_body(s, b, track);
-    key_length(s, kind, at)
-}
+    pub fn length(&self) -> usize
+        ensures { result ≡ length (bytes_of self.now) }
+    {
+        let section = self.section;
+        let at = self.at;
+        match self.kind {
+            Kind::Bone => BoneBody { section, at }.key_length(),
+            Kind::Morph => MorphBody { section, at }.key_length(),
+        }
+    }
 
-pub fn write_initial(s: &[u8], b: Block, track: usize, output: &mut [u8], place: usize) -> usize
-    requires fits { Fits s.now b }
-    requires track_lt_count { track < b.initials.count }
-    requires room { Room place (initial_bytes s.now b track) output.old }
-    ensures { Wrote place (initial_bytes s.now b track) output.old result output.new }
-{
-    let kind = b.kind;
-    let at = block::first_body(s, b, track);
-    let frame = block::first_frame(s, b, track);
-    write_key(s, kind, at, frame, output, place)
-}
-
-// The key of the additional record at a position.
-pub fn record_length(s: &[u8], b: Block, p: usize) -> usize
-    requires fits { Fits s.now b }
-    requires p_lt_count { p < b.records.count }
-    ensures { result ≡ length (record_bytes s.now b p) }
-{
-    let kind = b.kind;
-    let at = block::body_at(s, b, p);
-    key_length(s, kind, at)
-}
-
-pub fn write_record(s: &[u8], b: Block, p: usize, output: &mut [u8], place: usize) -> usize
-    requires fits { Fits s.now b }
-    requires p_lt_count { p < b.records.count }
-    requires room { Room place (record_bytes s.now b p) output.old }
-    ensures { Wrote place (record_bytes s.now b p) output.old result output.new }
-{
-    let kind = b.kind;
-    let at = block::body_at(s, b, p);
-    let frame = block::frame_at(s, b, p);
-    write_key(s, kind, at, frame, output, place)
+    pub fn write(&self, output: &mut [u8], place: usize) -> usize
+        requires { Room place (bytes_of self.now) output.old }
+        ensures { Wrote place (bytes_of self.now) output.old result output.new }
+    {
+        let section = self.section;
+        let at = self.at;
+        match self.kind {
+            Kind::Bone => BoneBody { section, at }.write_key(self.frame, output, place),
+            Kind::Morph => MorphBody { section, at }.write_key(self.frame, output, place),
+        }
+    }
 }

@@ -1,16 +1,14 @@
 -- `index_scan` meets its contract. Assumes nothing.
-use Rattle.chains.proofs.RisingIndices.{rise-passes, rise-orders}
-use Rattle.order.proofs.Counted.{up_to-length}
-use Rattle.order.specs.Repeat.{up_to}
-use Rattle.chains.specs.Lookup.{Ordered}
-use lib.ListN.{length}
+use Prim.Native.Nat.{ℕ}
 use mathlib.Core.List.{List}
 use mathlib.Core.Path.{sym, ap, ◌∙◌, subst}
-use Prim.Native.Nat.{ℕ}
+use Rattle.order.specs.Repeat.{up_to}
+use Rattle.chains.specs.Lookup.{Ordered}
+use Rattle.chains.proofs.RisingIndices.{rise-passes, rise-orders}
 use Rattle.chains.proofs.scan.index_scan.Goals as goal
 
-pub returns-then-rising : goal.returns-then-rising
-returns-then-rising c =
-    let rises = c.rising.ensures c.if-rising.true in
-    let is = c.fill.ensures ∙ ap up_to c.requires.slots_len in
-    record { result_value = rise-passes c.args.s.now c.args.b rises; ordered = λ passes. subst (λ (slots : List ℕ). Ordered c.args.s.now c.args.b slots) (sym is) (rise-orders c.args.s.now c.args.b rises c.requires.fits); slots_len_unchanged = ap length c.fill.ensures ∙ up_to-length (length c.args.slots.now) }
+pub returns-then-rising-clause-result_value : goal.returns-then-rising-clause-result_value
+returns-then-rising-clause-result_value c = rise-passes _ _ (c.rising.ensures c.if-rising.true)
+
+pub returns-then-rising-clause-ordered : goal.returns-then-rising-clause-ordered
+returns-then-rising-clause-ordered c = λ passes. subst (λ (slots : List ℕ). Ordered c.args.records.now.section.now c.args.records.now.block slots) (sym (c.fill.ensures ∙ ap up_to c.requires)) (rise-orders _ _ (c.rising.ensures c.if-rising.true) c.args.records.now.fits)

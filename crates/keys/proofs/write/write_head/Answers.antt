@@ -1,13 +1,14 @@
--- `write_head` meets its contract: the map byte is stored behind the frame. Assumes nothing.
-use Rattle.keys.proofs.Stores.{head-room, head-wrote}
+-- `write_head` meets its contract: the map byte is written behind the frame. Assumes nothing.
+use Rattle.keys.proofs.Placing.{room_back, wrote_then}
+use Rattle.keys.proofs.Stores.{number-put, head-room}
 use native.Mathlib.Omega.{arith}
 use Rattle.keys.proofs.write.write_head.Goals as goal
 
-pub write_u32-requires : goal.write_u32-requires
-write_u32-requires c = let fits = head-room c.args.output.now c.args.place c.args.frame c.args.map c.requires in omega arith
+pub put-next-requires : goal.put-next-requires
+put-next-requires c = let fits = head-room _ _ _ _ c.requires in omega (arith, fits)
 
-pub bounds-output-place : goal.bounds-output-place
-bounds-output-place c = let fits = head-room c.args.output.now c.args.place c.args.frame c.args.map c.requires in omega (arith)
+pub put-requires : goal.put-requires
+put-requires c = room_back _ _ _ _ c.requires _ _ (number-put _ _ _ _ _ _ c.to_le_bytes.ensures c.put-next.ensures)
 
 pub returns : goal.returns
-returns c = head-wrote c.args.output.now c.args.place c.args.frame c.args.map _ c.requires c.write_u32.ensures
+returns c = wrote_then _ _ _ _ c.requires _ _ (number-put _ _ _ _ _ _ c.to_le_bytes.ensures c.put-next.ensures) _ _ c.put.ensures

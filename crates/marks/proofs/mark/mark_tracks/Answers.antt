@@ -1,27 +1,25 @@
 -- `mark_tracks` meets its contract. Assumes nothing.
-use Rattle.marks.proofs.Passing.{ending, no-track, as_many, all-tracks, few-links, one-track}
-use lib.ListN.{length, length-replicate}
-use mathlib.Core.Path.{sym, ap, ◌∙◌}
 use native.Mathlib.Omega.{arith}
+use Rattle.marks.proofs.Passing.{ending, no-track, as_many, all-tracks, few-links, one-track}
 use Rattle.marks.proofs.mark.mark_tracks.Goals as goal
 
 pub loop-track-init : goal.loop-track-init
-loop-track-init c = no-track c.requires.marks_value
+loop-track-init c = no-track c.requires
 
 pub mark_chain-reached-requires : goal.mark_chain-reached-requires
-mark_chain-reached-requires c = record { ordered = c.requires.ordered; all_end = c.requires.all_end; track_lt_count = c.loop-track-test.true; marks_len = as_many c.loop-track.invariant }
+mark_chain-reached-requires c = rw c.chain-chain.ensures.indexed (as_many c.loop-track.invariant)
 
 pub overflow_add-reached : goal.overflow_add-reached
 overflow_add-reached c =
-    let more = few-links c.loop-track.invariant (ending c.requires.ordered c.loop-track-test.true (c.requires.all_end _ c.loop-track-test.true)) c.requires.ordered.fits.few_records c.mark_chain-reached.ensures.value in
-    omega arith
+    let many = rw (c.chain-chain.ensures.indexed, c.chain-chain.ensures.track) at c.mark_chain-reached.ensures.value in
+    let more = few-links c.loop-track.invariant (ending c.args.chains.now.indexed.ordered c.loop-track-test.true (c.args.chains.now.all_end _ c.loop-track-test.true)) c.args.chains.now.indexed.ordered.fits.few_records many in
+    omega (arith, more, c.loop-track.invariant.most, c.loop-track-test.true, c.args.chains.now.indexed.ordered.fits.few_tracks)
 
 pub loop-track-preserved : goal.loop-track-preserved
 loop-track-preserved c =
-    one-track c.loop-track.invariant (ending c.requires.ordered c.loop-track-test.true (c.requires.all_end _ c.loop-track-test.true)) c.requires.ordered.fits.few_records c.mark_chain-reached.ensures.value c.mark_chain-reached.ensures.marks_after
-
-pub shape_of-marks : goal.shape_of-marks
-shape_of-marks c = as_many c.loop-track.invariant ∙ sym (ap length c.requires.marks_value ∙ length-replicate c.args.b.records.count 0)
+    let many = rw (c.chain-chain.ensures.indexed, c.chain-chain.ensures.track) at c.mark_chain-reached.ensures.value in
+    let are = rw (c.chain-chain.ensures.indexed, c.chain-chain.ensures.track) at c.mark_chain-reached.ensures.marks_after in
+    one-track c.loop-track.invariant (ending c.args.chains.now.indexed.ordered c.loop-track-test.true (c.args.chains.now.all_end _ c.loop-track-test.true)) c.args.chains.now.indexed.ordered.fits.few_records many are
 
 pub returns : goal.returns
-returns c = let both = all-tracks c.loop-track.invariant c.loop-track-test.false in record { marks_after = both.0; value = both.1 }
+returns c = let both = all-tracks c.loop-track.invariant (omega (arith, c.loop-track-test.false, c.loop-track.auto.track-end)) in record { marks_after = both.0; value = both.1 }

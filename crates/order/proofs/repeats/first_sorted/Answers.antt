@@ -4,10 +4,10 @@ use Rattle.order.proofs.FirstOfAll.{filled-below, filled-sorted, first-repeat}
 use Rattle.order.proofs.repeats.first_sorted.Goals as goal
 
 pub sort-requires : goal.sort-requires
-sort-requires c = record { within = c.requires.within; all_below = filled-below _ _ c.requires.within _ c.requires.slots_len_bound _ c.fill.ensures }
+sort-requires c = filled-below _ _ c.args.numbers.now.within _ c.requires _ c.fill.ensures
 
-pub least_behind-requires : goal.least_behind-requires
-least_behind-requires c = record { within = c.requires.within; all_below = sorted-below _ _ _ _ c.sort.ensures _ (filled-below _ _ c.requires.within _ c.requires.slots_len_bound _ c.fill.ensures) }
+pub invariant_of-read : goal.invariant_of-read
+invariant_of-read c = record { all_below = sorted-below _ _ _ _ c.sort.ensures _ (filled-below _ _ c.args.numbers.now.within _ c.requires _ c.fill.ensures) }
 
 pub returns : goal.returns
-returns c = record { first_repeat = first-repeat _ _ c.requires.within _ c.requires.slots_len_bound _ c.fill.ensures _ c.sort.ensures _ c.least_behind.ensures; sorted = filled-sorted _ _ c.requires.within _ c.requires.slots_len_bound _ c.fill.ensures _ c.sort.ensures }
+returns c = record { first_repeat = first-repeat _ _ c.args.numbers.now.within _ c.requires _ c.fill.ensures _ c.sort.ensures _ c.least_behind.ensures; sorted = filled-sorted _ _ c.args.numbers.now.within _ c.requires _ c.fill.ensures _ c.sort.ensures }

@@ -1,9 +1,7 @@
-use Prim.Native.Nat.{◌-◌}
+use lib.ListN.{length}
+use Rattle.track_keys.specs.Frames.{frames_at}
 use Rattle.track_keys.proofs.CloseFrames.{Flagged}
 use Rattle.track_keys.proofs.close.flagged_again.Given as goal
 
 abbrev pub invariant-loop-i : goal.invariant-loop-i
-invariant-loop-i l = Flagged l.s l.b l.track l.span l.n l.list l.link l.i
-
-abbrev pub decreases-loop-i : goal.decreases-loop-i
-decreases-loop-i l = l.n - l.i
+invariant-loop-i l = Flagged (frames_at l.chain.indexed.records.section.now l.chain.indexed.records.block l.chain.track) l.span.least (length l.fn.list) l.list (length l.yielded)

@@ -1,12 +1,6 @@
-use Prim.Native.Nat.{◌-◌, ◌≤◌}
-use lib.ListN.{length}
-use Rattle.chains.specs.Block.{links}
-use Rattle.track_keys.specs.Tracks.{frames_of}
-use Rattle.track_keys.specs.Close.{Spans}
+use Rattle.track_keys.proofs.CloseFrames.{Spanning}
+use Rattle.track_keys.specs.Frames.{frames_at}
 use Rattle.track_keys.proofs.close.key_span.Given as goal
 
-abbrev pub invariant-loop-i : goal.invariant-loop-i
-invariant-loop-i l = (l.i ≤ length l.list) × Spans (frames_of (links l.s l.b) l.track l.list) l.i l.span
-
-abbrev pub decreases-loop-i : goal.decreases-loop-i
-decreases-loop-i l = length l.list - l.i
+abbrev pub invariant-loop-p : goal.invariant-loop-p
+invariant-loop-p l = Spanning (frames_at l.chain.indexed.records.section.now l.chain.indexed.records.block l.chain.track) l.p-index l.least l.greatest

@@ -1,18 +1,14 @@
 -- `bone_key` meets its contract. Assumes nothing.
-use mathlib.Core.Path.{sym, ap, ◌∙◌}
-use Rattle.keys.specs.Answers.{asked_read}
+use Rattle.clip.specs.Fields.{bone}
 use Rattle.chains.specs.declared.block.Kind.{Kind}
-use Rattle.track_keys.proofs.OneKey.{frame_refused, body-asked}
+use Rattle.track_keys.proofs.OneKey.{body-asked}
 use Rattle.track_keys.proofs.key.bone_key.Goals as goal
 
-pub returns-in-Refused : goal.returns-in-Refused
-returns-in-Refused c = frame_refused c.args.s.now Kind.Bone c.args.track.0 c.args.frame c.args.body c.args.repeated _ c.frame_asked.ensures c.in-Refused.is
+pub returns-in-Ok : goal.returns-in-Ok
+returns-in-Ok c = λ count. body-asked c.args.s.now Kind.Bone c.args.track.0 c.args.frame c.args.body c.args.repeated (c.in_ok-frame_asked.ensures bone count) c.in-Ok.ensures
 
-pub returns-in-Fine : goal.returns-in-Fine
-returns-in-Fine c = λ count. body-asked c.args.s.now Kind.Bone c.args.track.0 c.args.frame c.args.body c.args.repeated _ c.frame_asked.ensures c.in-Nothing.is (sym (ap asked_read c.in-Fine.is) ∙ c.bone_asked.ensures)
+pub returns-in-Err-Translation : goal.returns-in-Err-Translation
+returns-in-Err-Translation c = λ count. body-asked c.args.s.now Kind.Bone c.args.track.0 c.args.frame c.args.body c.args.repeated (c.in_ok-frame_asked.ensures bone count) (rw c.in-Err-Translation.field-0-is at c.in-Err-Translation.ensures)
 
-pub returns-in-Translation : goal.returns-in-Translation
-returns-in-Translation c = λ count. body-asked c.args.s.now Kind.Bone c.args.track.0 c.args.frame c.args.body c.args.repeated _ c.frame_asked.ensures c.in-Nothing.is (sym (ap asked_read c.in-Translation.is) ∙ c.bone_asked.ensures)
-
-pub returns-in-Orientation : goal.returns-in-Orientation
-returns-in-Orientation c = λ count. body-asked c.args.s.now Kind.Bone c.args.track.0 c.args.frame c.args.body c.args.repeated _ c.frame_asked.ensures c.in-Nothing.is (sym (ap asked_read c.in-Orientation.is) ∙ c.bone_asked.ensures)
+pub returns-in-Err-Orientation : goal.returns-in-Err-Orientation
+returns-in-Err-Orientation c = λ count. body-asked c.args.s.now Kind.Bone c.args.track.0 c.args.frame c.args.body c.args.repeated (c.in_ok-frame_asked.ensures bone count) (rw c.in-Err-Orientation.field-0-is at c.in-Err-Orientation.ensures)

@@ -1,11 +1,6 @@
-use lib.ListN.{length}
-use Prim.Native.Nat.{◌-◌}
-use Rattle.writing.specs.Tracks.{chain_at}
+use Rattle.chains.specs.Positions.{positions_left}
 use Rattle.writing.proofs.Filling.{Fills}
 use Rattle.writing.proofs.chain.write_records.Given as goal
 
-abbrev pub invariant-loop-link : goal.invariant-loop-link
-invariant-loop-link l = Fills l.s l.b l.track l.place l.initial.output l.records l.link l.end l.output
-
-abbrev pub decreases-loop-link : goal.decreases-loop-link
-decreases-loop-link l = length (chain_at l.s l.b l.track) - l.records
+abbrev pub invariant-loop-p : goal.invariant-loop-p
+invariant-loop-p l = Fills l.chain.indexed.records.section.now l.chain.indexed.records.block l.chain.track l.place l.initial.output l.yielded (positions_left l.p-iterator) l.written.records l.written.end l.output

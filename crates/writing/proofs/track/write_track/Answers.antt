@@ -1,27 +1,23 @@
 -- `write_track` meets its contract: initial key and the keys of the chain are written behind the room of the count, then the count. Assumes nothing.
 use native.Mathlib.Omega.{arith}
-use Rattle.writing.proofs.Following.{chain-most}
+use Rattle.writing.proofs.Measuring.{chain-most}
 use Rattle.writing.proofs.OneTrack.{initial-room, records-room, count_room, track-wrote}
 use Rattle.writing.proofs.track.write_track.Goals as goal
 
 pub overflow_add-place : goal.overflow_add-place
-overflow_add-place c =
-    let room = initial-room c.args.s.now c.args.b c.args.track c.args.place c.args.output.now c.requires.room in
-    omega (arith, room)
+overflow_add-place c = let room = initial-room _ _ _ _ _ c.requires in omega (arith, room)
 
-pub write_initial-next-requires : goal.write_initial-next-requires
-write_initial-next-requires c = record { fits = c.requires.ordered.fits; track_lt_count = c.requires.track_lt_count; room = initial-room c.args.s.now c.args.b c.args.track c.args.place c.args.output.now c.requires.room }
+pub write-next-requires : goal.write-next-requires
+write-next-requires c = rw c.initial-initial.ensures (initial-room _ _ _ _ _ c.requires)
 
-pub write_records-chain-requires : goal.write_records-chain-requires
-write_records-chain-requires c = record { ordered = c.requires.ordered; all_end = c.requires.all_end; track_lt_count = c.requires.track_lt_count; room = records-room c.args.s.now c.args.b c.args.track c.args.place c.args.output.now c.requires.room _ _ c.write_initial-next.ensures }
+pub write_records-written-requires : goal.write_records-written-requires
+write_records-written-requires c = records-room _ _ _ _ _ c.requires _ _ (rw c.initial-initial.ensures at c.write-next.ensures)
 
-pub overflow_add-chain : goal.overflow_add-chain
-overflow_add-chain c =
-    let most = chain-most (record { ordered = c.requires.ordered; all_end = c.requires.all_end; is-track = c.requires.track_lt_count }) in
-    omega (arith, most, c.write_records-chain.ensures.records_value)
+pub overflow_add-written : goal.overflow_add-written
+overflow_add-written c = omega (arith, chain-most c.args.chain.now.ends, c.write_records-written.ensures.records_value)
 
 pub write_count-requires : goal.write_count-requires
-write_count-requires c = count_room c.args.s.now c.args.b c.args.track c.args.place c.args.output.now c.requires.room _ _ c.write_initial-next.ensures _ _ c.write_records-chain.ensures.wrote
+write_count-requires c = count_room _ _ _ _ _ c.requires _ _ (rw c.initial-initial.ensures at c.write-next.ensures) _ _ c.write_records-written.ensures.wrote
 
 pub returns : goal.returns
-returns c = track-wrote c.args.s.now c.args.b c.args.track c.args.place c.args.output.now c.requires.room _ _ c.write_initial-next.ensures _ _ c.write_records-chain.ensures.wrote c.write_records-chain.result.records _ c.write_records-chain.ensures.records_value c.write_count.ensures
+returns c = track-wrote _ _ _ _ _ c.requires _ _ (rw c.initial-initial.ensures at c.write-next.ensures) _ _ c.write_records-written.ensures.wrote _ _ c.write_records-written.ensures.records_value c.write_count.ensures

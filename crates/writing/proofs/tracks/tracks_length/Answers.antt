@@ -1,22 +1,22 @@
 -- `tracks_length` meets its contract: in each turn one track more is measured. Assumes nothing.
 use native.Mathlib.Omega.{arith}
-use Rattle.writing.proofs.Measuring.{counted_none, counted-more, counted-all, tracks-fit, track-fits}
+use lib.ListN.{length}
+use mathlib.Core.List.{List}
+use mathlib.Core.Path.{sym, ap}
+use Prim.Native.Nat.{ℕ}
+use Rattle.writing.proofs.Measuring.{tracks-fit, track-fits, counted-more}
+use Rattle.writing.proofs.Sums.{no-tracks}
 use Rattle.writing.proofs.tracks.tracks_length.Goals as goal
 
 pub loop-track-init : goal.loop-track-init
-loop-track-init c = counted_none
-
-pub track_length-bytes-requires : goal.track_length-bytes-requires
-track_length-bytes-requires c = record { ordered = c.requires.ordered; all_end = c.requires.all_end; track_lt_count = c.loop-track-test.true }
+loop-track-init c = sym (ap (λ (bs : List ℕ). length bs) (no-tracks c.args.chains.now.indexed.records.section.now c.args.chains.now.indexed.records.block))
 
 pub overflow_add-bytes : goal.overflow_add-bytes
 overflow_add-bytes c =
-    let front = tracks-fit c.requires.ordered c.requires.all_end c.loop-track.track c.loop-track.invariant.some in
-    let one = track-fits c.requires.ordered c.requires.all_end c.loop-track.track c.loop-track-test.true in
-    omega (arith, c.loop-track.invariant.sum, front, one, c.track_length-bytes.ensures)
+    let front = tracks-fit c.args.chains.now.indexed.ordered c.args.chains.now.all_end c.loop-track.track (omega arith) in
+    let one = track-fits c.args.chains.now.indexed.ordered c.args.chains.now.all_end c.loop-track.track c.loop-track-test.true in
+    let is = rw (c.chain.ensures.indexed, c.chain.ensures.track) at c.track_length-bytes.ensures in
+    omega (arith, c.loop-track.invariant, front, one, is)
 
 pub loop-track-preserved : goal.loop-track-preserved
-loop-track-preserved c = counted-more c.loop-track.invariant c.loop-track-test.true c.track_length-bytes.ensures
-
-pub returns : goal.returns
-returns c = counted-all c.loop-track.invariant (omega arith)
+loop-track-preserved c = counted-more _ _ _ c.loop-track.invariant (rw (c.chain.ensures.indexed, c.chain.ensures.track) at c.track_length-bytes.ensures)

@@ -1,7 +1,0 @@
--- `frame_at` meets its contract. Assumes nothing.
-use Rattle.clip.specs.Section.{additional_at}
-use Rattle.chains.proofs.block.frame_at.Goals as goal
-
-pub returns : goal.returns
-unfolding additional_at
-returns c = c.record_number.ensures

@@ -1,0 +1,34 @@
+// Chains that are known to end, so that a link that is not 0 has its record.
+ghost use Rattle.std.specs.Prelude.{◌≡◌, ◌<◌, ◌≤◌, length};
+ghost use Rattle.chains.specs.Walk.{AllEnd};
+ghost use Rattle.chains.specs.Chain.{Ends};
+
+use crate::lookup::Indexed;
+
+// The chain of a track.
+#[derive(Clone, Copy)]
+pub struct Chain<'a> {
+    pub indexed: Indexed<'a>,
+    pub track: usize,
+    pub ghost ends: { Ends indexed.records.section.now indexed.records.block indexed.slots.now track },
+}
+
+// The chains of all tracks.
+#[derive(Clone, Copy)]
+pub struct Chains<'a> {
+    pub indexed: Indexed<'a>,
+    pub ghost all_end: { AllEnd indexed.records.section.now indexed.records.block },
+}
+
+impl<'a> Chains<'a> {
+    pub fn chain(&self, track: usize) -> Chain<'a>
+        requires { track < self.now.indexed.records.block.initials.count }
+        ensures indexed { result.indexed ≡ self.now.indexed }
+        ensures track { result.track ≡ track }
+    {
+        Chain {
+            indexed: self.indexed,
+            track,
+        }
+    }
+}

@@ -1,0 +1,54 @@
+// The positions of a chain's records, in chain order.
+ghost use Rattle.std.specs.Prelude.{◌≡◌};
+ghost use Rattle.chains.specs.Chain.{Along};
+
+use crate::chain::Chain;
+use crate::near::Near;
+
+// A chain followed by its links: the next link, where its record may be found, and how many records were passed.
+#[derive(Drop)]
+pub struct Positions<'a> {
+    chain: Chain<'a>,
+    link: u32,
+    near: Near,
+    taken: usize,
+    ghost along: { Along chain.indexed.records.section.now chain.indexed.records.block chain.track taken link },
+}
+
+impl<'a> Iterator for Positions<'a> {
+    ghost use Rattle.std.specs.Iterator.{YieldsFirst, item_count};
+    ghost use Rattle.chains.specs.Positions.{positions_left};
+
+    type Item = usize;
+
+    ghost next_gives = { YieldsFirst positions_left };
+
+    ghost remaining = { item_count positions_left };
+
+    fn next(&mut self) -> Option<usize> {
+        if self.link == 0 {
+            return None;
+        }
+        let at = self.chain.indexed.lookup(self.link, self.near)?;
+        self.near = self.near.after(at.place);
+        self.link = self.chain.indexed.records.next_at(at.position);
+        self.taken += 1;
+        Some(at.position)
+    }
+}
+
+impl<'a> Chain<'a> {
+    ghost use Rattle.chains.specs.Chain.{chain_at};
+    ghost use Rattle.chains.specs.Positions.{positions_left};
+
+    pub fn positions(&self) -> Positions<'a>
+        ensures { positions_left result ≡ chain_at self.now.indexed.records.section.now self.now.indexed.records.block self.now.track }
+    {
+        Positions {
+            chain: *self,
+            link: self.indexed.records.first_link(self.track),
+            near: Near::default(),
+            taken: 0,
+        }
+    }
+}

@@ -1,6 +1,0 @@
--- `bone_key_length` meets its contract. Assumes nothing.
-use Rattle.keys.proofs.Lengths.{bone-length-is}
-use Rattle.keys.proofs.write.bone_key_length.Goals as goal
-
-pub returns : goal.returns
-returns c = rw (c.standing-fields.ensures, c.bone_plain.ensures) (bone-length-is _ _ 0)

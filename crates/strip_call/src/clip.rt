@@ -1,0 +1,50 @@
+// Document 01, module 6: the strip of a clip is measured, and then written.
+ghost use Rattle.std.specs.Prelude.{◌≡◌, ◌≤◌, length};
+ghost use Rattle.strip_call.specs.Bytes.{strip_bytes};
+
+use chains::chain::Chains;
+use keys::write;
+use writing::tracks;
+
+// The chains of both kinds of a section. No strip is longer than its section.
+#[derive(Clone, Copy)]
+pub struct Clip<'a> {
+    pub bones: Chains<'a>,
+    pub morphs: Chains<'a>,
+    ghost one_section: { morphs.indexed.records.section.now ≡ bones.indexed.records.section.now },
+    ghost short: { length (strip_bytes bones.indexed.records.section.now bones.indexed.records.block morphs.indexed.records.block) ≤ length bones.indexed.records.section.now },
+}
+
+impl<'a> Clip<'a> {
+    ghost use Rattle.std.specs.Prelude.{leb};
+    ghost use Rattle.keys.specs.Placed.{Room, Wrote};
+    ghost use Rattle.strip_call.specs.Clip.{bytes_of};
+
+    pub fn length(&self) -> usize
+        ensures { result ≡ length (bytes_of self.now) }
+    {
+        4 + tracks::tracks_length(&self.bones) + tracks::tracks_length(&self.morphs)
+    }
+
+    // Whether so many bytes are enough. Where they are as many as the section has, nothing is measured.
+    pub fn fits(&self, bytes: usize) -> bool
+        ensures { result ≡ leb (length (bytes_of self.now)) bytes }
+    {
+        if self.bones.indexed.records.section.len() <= bytes {
+            return true;
+        }
+        self.length() <= bytes
+    }
+
+    pub fn write(&self, output: &mut [u8]) -> usize
+        requires { Room 0 (bytes_of self.now) output.old }
+        ensures { Wrote 0 (bytes_of self.now) output.old result output.new }
+    {
+        let bones = self.bones.indexed.records.block;
+        let morphs = self.morphs.indexed.records.block;
+        write::write_count(output, 0, bones.initials.count);
+        write::write_count(output, 2, morphs.initials.count);
+        let behind = tracks::write_tracks(&self.bones, output, 4);
+        tracks::write_tracks(&self.morphs, output, behind)
+    }
+}

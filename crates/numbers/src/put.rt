@@ -6,13 +6,9 @@ ghost use Rattle.numbers.specs.Answers.{Hands};
 pub fn put<T: Copy>(slice: &mut [T], at: usize, items: &[T])
     ensures { slice.new ≡ put at items.now slice.old }
 {
-    let mut to = at;
-    for item in items {
-        if slice.len() <= to {
-            return;
-        }
-        slice[to] = *item;
-        to += 1;
+    if at < slice.len() {
+        let fit = items.len().min(slice.len() - at);
+        slice[at..at + fit].copy_from_slice(&items[..fit]);
     }
 }
 

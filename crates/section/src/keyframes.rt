@@ -1,7 +1,5 @@
 // The keyframe blocks of a section: initial records, the count of additional ones, additional records.
 ghost use Rattle.std.specs.Prelude.{◌≡◌};
-ghost use Rattle.layout.specs.Records.{initial, additional, bone, morph, model};
-ghost use Rattle.layout.specs.Walk.{unlimited};
 ghost use Rattle.binary.specs.Answers.{read};
 ghost use Rattle.binary.specs.Items.{widths};
 ghost use Rattle.section.specs.Model.{keyframes, keyframe_blocks};
@@ -53,41 +51,19 @@ pub fn read_keyframes(
     Ok((keyframes, end_offset))
 }
 
-pub fn read_bone_keyframes(s: &[u8], at: usize, tracks: u32) -> Read<Keyframes>
-    ensures { read result ≡ keyframes tracks (initial bone) (additional bone) edition1.additional s.now at }
-{
-    let (first, more) = (items::bone_items(2), items::bone_items(3));
-    read_keyframes(s, at, tracks, &first, &more, 65534)
-}
-
-pub fn read_morph_keyframes(s: &[u8], at: usize, tracks: u32) -> Read<Keyframes>
-    ensures { read result ≡ keyframes tracks (initial morph) (additional morph) edition1.additional s.now at }
-{
-    let (first, more) = (items::morph_items(2), items::morph_items(3));
-    read_keyframes(s, at, tracks, &first, &more, 65534)
-}
-
-// A model has one track of its own.
-pub(crate) fn read_model_keyframes(
-    s: &[u8],
-    at: usize,
-    constraints: u32,
-    parents: u32,
-) -> Read<Keyframes>
-    ensures { read result ≡ keyframes 1 (initial (model constraints parents)) (additional (model constraints parents)) unlimited s.now at }
-{
-    let first = items::model_items(2, constraints, parents);
-    let more = items::model_items(3, constraints, parents);
-    read_keyframes(s, at, 1, &first, &more, 2147483647)
-}
-
 #[tactic(auto, unfolding(crate::specs::Model::keyframe_blocks))]
 pub(crate) fn read_keyframe_blocks(s: &[u8], at: usize, counts: Counts) -> Read<KeyframeBlocks>
     ensures { read result ≡ keyframe_blocks edition1 counts s.now at }
 {
-    let (bones, at) = read_bone_keyframes(s, at, counts.bones.count)?;
-    let (morphs, at) = read_morph_keyframes(s, at, counts.morphs.count)?;
-    let (models, next) = read_model_keyframes(s, at, counts.constraints, counts.parents)?;
+    let (first, more) = (items::bone_items(2), items::bone_items(3));
+    let (bones, at) = read_keyframes(s, at, counts.bones.count, &first, &more, 65534)?;
+    let (first, more) = (items::morph_items(2), items::morph_items(3));
+    let (morphs, at) = read_keyframes(s, at, counts.morphs.count, &first, &more, 65534)?;
+    // A model has one track of its own.
+    let (constraints, parents) = (counts.constraints, counts.parents);
+    let first = items::model_items(2, constraints, parents);
+    let more = items::model_items(3, constraints, parents);
+    let (models, next) = read_keyframes(s, at, 1, &first, &more, 2147483647)?;
     let blocks = KeyframeBlocks {
         bones,
         morphs,

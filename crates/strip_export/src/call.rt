@@ -6,11 +6,15 @@ ghost use Rattle.strip.specs.Call.{strip_call};
 ghost use Rattle.strip_call.specs.Answers.{refusal_read};
 ghost use Rattle.strip_export.specs.Answers.{Refuses, Leaves};
 ghost use Rattle.binary.specs.Answers.{because};
+ghost use Rattle.chains.specs.Block.{kind_of};
+ghost use Rattle.chains.specs.Fault.{fault_of};
 
-use crate::{faults, values};
+use crate::values;
 use binary::counts::Refusal;
 use chains::block::Kind;
-use strip_call::answer::{Strip, StripRefusal};
+use chains::fault::Fault;
+use numbers::put;
+use strip_call::answer::StripRefusal;
 
 fn not_read(numbers: &mut [u64], why: Refusal) -> u32
     ensures { Refuses (because why) numbers.old result numbers.new }
@@ -18,20 +22,23 @@ fn not_read(numbers: &mut [u64], why: Refusal) -> u32
     numbers::refusals::refused(numbers, why)
 }
 
+fn not_built(numbers: &mut [u64], kind: Kind, count: usize, fault: Fault) -> u32
+    ensures { Refuses (fault_of (kind_of kind) count fault) numbers.old result numbers.new }
+{
+    values::put_fault(numbers, kind, count, fault);
+    u32::from(fault.number())
+}
+
 fn refused(numbers: &mut [u64], why: StripRefusal) -> u32
     ensures { Refuses (refusal_read why) numbers.old result numbers.new }
 {
     match why {
         StripRefusal::Reading(why) => not_read(numbers, why),
-        StripRefusal::Bones(count, fault) => faults::refused(numbers, Kind::Bone, count, fault),
-        StripRefusal::Morphs(count, fault) => faults::refused(numbers, Kind::Morph, count, fault),
-        StripRefusal::WorkTooShort(need) => {
-            values::put_length(numbers, need);
-            17
-        }
-        StripRefusal::OutputTooShort(length) => {
-            values::put_length(numbers, length);
-            18
+        StripRefusal::Bones(count, fault) => not_built(numbers, Kind::Bone, count, fault),
+        StripRefusal::Morphs(count, fault) => not_built(numbers, Kind::Morph, count, fault),
+        StripRefusal::WorkTooShort(places) | StripRefusal::OutputTooShort(places) => {
+            put::put_numbers(numbers, 0, &[places as u64]);
+            u32::from(why.number())
         }
     }
 }
@@ -48,9 +55,9 @@ pub extern "C" fn limdroven_strip(
     ensures { Leaves (strip_call edition1 count_width section.now start first.old second.old output.old) values.old result first.new second.new output.new values.new }
 {
     match strip_call::call::strip(section, start, first, second, output) {
-        Strip::Refused(why) => refused(values, why),
-        Strip::Built(length, reached, loose) => {
-            values::put_built(values, length, reached, loose);
+        Err(why) => refused(values, why),
+        Ok(built) => {
+            values::put_built(values, built);
             0
         }
     }

@@ -2,5 +2,4 @@
 #![tactic(auto)]
 
 pub mod call;
-mod faults;
 mod values;

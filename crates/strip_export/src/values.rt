@@ -1,13 +1,17 @@
-// The values of refusals of a build, written from place 0 on as far as the slice reaches.
-ghost use Rattle.std.specs.Prelude.{◌≡◌, [], ◌∷◌, map, pos};
+// The numbers of an answer, written from place 0 on as far as the slice reaches.
+ghost use Rattle.std.specs.Prelude.{◌≡◌, [], ◌∷◌};
 ghost use Rattle.std.specs.Int.{w32};
 ghost use Rattle.std.proofs.Common.{of_z};
 ghost use Rattle.numbers.specs.Put.{put as written};
 ghost use Rattle.clip.specs.Fields.{signed, kind_value};
 ghost use Rattle.chains.specs.Block.{kind_of};
+ghost use Rattle.chains.specs.Fault.{fault_of};
+ghost use Rattle.strip_export.specs.Answers.{values as values_of};
 
 use chains::block::Kind;
+use chains::fault::Fault;
 use numbers::put;
+use strip_call::answer::Built;
 
 fn kind_number(kind: Kind) -> u64
     ensures { result ≡ of_z w32 (kind_value (kind_of kind)) }
@@ -24,66 +28,53 @@ fn pattern(bits: u32) -> u64
     bits as u64
 }
 
-pub fn put_index(values: &mut [u64], kind: Kind, index: u32)
-    ensures { values.new ≡ written 0 (map (of_z w32) (kind_value (kind_of kind) ∷ signed index ∷ [])) values.old }
+// 12, 13 and 14 say no kind.
+pub fn put_fault(values: &mut [u64], kind: Kind, count: usize, fault: Fault)
+    ensures { values.new ≡ written 0 (values_of (fault_of (kind_of kind) count fault)) values.old }
 {
-    let numbers = [kind_number(kind), pattern(index)];
-    put::put_numbers(values, 0, &numbers);
+    let kind = kind_number(kind);
+    match fault {
+        Fault::NegativeIndex(index) | Fault::RepeatedIndex(index) => {
+            put::put_numbers(values, 0, &[kind, pattern(index)]);
+        }
+        Fault::IndexBelowCount(index) => {
+            put::put_numbers(values, 0, &[kind, pattern(index), count as u64]);
+        }
+        Fault::Missing(track, bits)
+        | Fault::Cycle(track, bits)
+        | Fault::NegativeFrame(track, bits)
+        | Fault::RepeatedFrame(track, bits) => {
+            put::put_numbers(values, 0, &[kind, track as u64, pattern(bits)]);
+        }
+        Fault::Wrong(track, link, found, expected) => {
+            let numbers = [
+                kind,
+                track as u64,
+                pattern(link),
+                pattern(found),
+                pattern(expected),
+            ];
+            put::put_numbers(values, 0, &numbers);
+        }
+        Fault::Translation(bone, frame) | Fault::Orientation(bone, frame) => {
+            put::put_numbers(values, 0, &[bone.0 as u64, pattern(frame)]);
+        }
+        Fault::Weight(morph, frame) => {
+            put::put_numbers(values, 0, &[morph.0 as u64, pattern(frame)]);
+        }
+        Fault::Disconnected(records) => {
+            put::put_numbers(values, 0, &[kind, records as u64]);
+        }
+    }
 }
 
-pub fn put_index_below(values: &mut [u64], kind: Kind, index: u32, count: usize)
-    ensures { values.new ≡ written 0 (map (of_z w32) (kind_value (kind_of kind) ∷ signed index ∷ pos count ∷ [])) values.old }
-{
-    let numbers = [kind_number(kind), pattern(index), count as u64];
-    put::put_numbers(values, 0, &numbers);
-}
-
-// A track, and a link or a frame.
-pub fn put_on_track(values: &mut [u64], kind: Kind, track: usize, bits: u32)
-    ensures { values.new ≡ written 0 (map (of_z w32) (kind_value (kind_of kind) ∷ pos track ∷ signed bits ∷ [])) values.old }
-{
-    let numbers = [kind_number(kind), track as u64, pattern(bits)];
-    put::put_numbers(values, 0, &numbers);
-}
-
-pub fn put_wrong(values: &mut [u64], kind: Kind, track: usize, link: u32, found: u32, expected: u32)
-    ensures { values.new ≡ written 0 (map (of_z w32) (kind_value (kind_of kind) ∷ pos track ∷ signed link ∷ signed found ∷ signed expected ∷ [])) values.old }
+pub fn put_built(values: &mut [u64], built: Built)
+    ensures { values.new ≡ written 0 (built.length ∷ built.reached ∷ built.loose ∷ []) values.old }
 {
     let numbers = [
-        kind_number(kind),
-        track as u64,
-        pattern(link),
-        pattern(found),
-        pattern(expected),
+        built.length as u64,
+        built.reached as u64,
+        built.loose as u64,
     ];
-    put::put_numbers(values, 0, &numbers);
-}
-
-// 12, 13 and 14 say no kind.
-pub fn put_body(values: &mut [u64], track: u32, frame: u32)
-    ensures { values.new ≡ written 0 (map (of_z w32) (pos track ∷ signed frame ∷ [])) values.old }
-{
-    let numbers = [track as u64, pattern(frame)];
-    put::put_numbers(values, 0, &numbers);
-}
-
-pub fn put_records(values: &mut [u64], kind: Kind, records: usize)
-    ensures { values.new ≡ written 0 (map (of_z w32) (kind_value (kind_of kind) ∷ pos records ∷ [])) values.old }
-{
-    let numbers = [kind_number(kind), records as u64];
-    put::put_numbers(values, 0, &numbers);
-}
-
-pub fn put_length(values: &mut [u64], length: usize)
-    ensures { values.new ≡ written 0 (map (of_z w32) (pos length ∷ [])) values.old }
-{
-    let numbers = [length as u64];
-    put::put_numbers(values, 0, &numbers);
-}
-
-pub fn put_built(values: &mut [u64], length: usize, reached: usize, loose: usize)
-    ensures { values.new ≡ written 0 (length ∷ reached ∷ loose ∷ []) values.old }
-{
-    let numbers = [length as u64, reached as u64, loose as u64];
     put::put_numbers(values, 0, &numbers);
 }

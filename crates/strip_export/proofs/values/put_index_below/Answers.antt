@@ -1,7 +1,0 @@
--- `put_index_below` meets its contract: each number is made by a call. Assumes nothing.
-use mathlib.Core.Path.{refl}
-use Rattle.numbers.proofs.Putting.{same, also}
-use Rattle.strip_export.proofs.values.put_index_below.Goals as goal
-
-pub returns : goal.returns
-returns c = same _ _ _ _ _ c.put_numbers.ensures (also _ _ _ _ c.kind_number.ensures (also _ _ _ _ c.pattern.ensures (also _ _ _ _ refl refl)))

@@ -4,6 +4,8 @@
 
 mod say;
 
+use files::hex::Hex;
+use say::{Answer, Work};
 use sections_by_hand::{bones, cases, empty};
 use std::io;
 use strip_call::call;
@@ -17,12 +19,13 @@ fn run_lent(
     output: &mut [u8],
 ) -> io::Result<()> {
     let answer = call::strip(section, 0, first, second, output);
-    print!(rt; "{what}: ")?;
-    say::say_answer(rt, answer)?;
-    say::say_work(rt, ", work", first)?;
-    say::say_work(rt, " and", second)?;
-    print!(rt; ", output ")?;
-    say::say_output(rt, output)
+    println!(rt;
+        "{what}: {}, work{} and{}, output {}",
+        Answer(answer),
+        Work(first),
+        Work(second),
+        Hex(output)
+    )
 }
 
 fn run(rt: &impl Print, what: &str, section: &[u8]) -> io::Result<()> {

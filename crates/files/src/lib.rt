@@ -1,5 +1,7 @@
-// Reading for the programs: into a slice, as far as a file or standard input goes.
+// Reading for the programs: into a slice, as far as a file or standard input goes. hex prints what is read.
 #![tactic(auto)]
+
+pub mod hex;
 
 ghost use Rattle.std.specs.Prelude.{◌≤◌, length, IfOk};
 
@@ -12,6 +14,7 @@ pub fn read_full(input: &mut impl Read, bytes: &mut [u8]) -> io::Result<usize>
     ensures { IfOk result (λ n. n ≤ length bytes.new) }
 {
     let mut done = 0;
+    // A read may bring less than there is room for: how many reads there are is not known before.
     while done < bytes.len() {
         let n = input.read(&mut bytes[done..])?;
         if n == 0 {

@@ -2,23 +2,17 @@
 // key of its strip and how many records are loose, or the number of the refusal.
 #![tactic(auto)]
 
-use lines::{list, say};
+use binary::refusal::Refusal;
+use lines::list;
 use std::io;
-use std::io::Read;
-
-fn more_comes(input: &mut impl Read) -> io::Result<bool> {
-    let mut one = [0u8; 1];
-    Ok(0 < files::read_full(input, &mut one)?)
-}
 
 fn main(rt: HostRuntime) -> io::Result<()> {
     let mut input = rt.stdin();
-    let mut space = [0u8; 65536];
+    let mut space = [0; 65536];
     let n = files::read_full(&mut input, &mut space)?;
-    if n == 65536 {
-        if more_comes(&mut input)? {
-            return say::say_refused(&rt, 16);
-        }
+    // More comes than there is space for.
+    if n == space.len() && files::read_full(&mut input, &mut [0])? == 1 {
+        return println!(rt; "refused {}", Refusal::TooLong.number());
     }
-    list::list(&rt, &space[0..n], 0)
+    list::list(&rt, &space[..n], 0)
 }

@@ -1,48 +1,57 @@
-// One check: a call, what it is lent, and what it must answer. oracle/README.md has the format.
-use vectors::fields;
+// One check: what a call is lent, and what it must answer. oracle/README.md has the format.
+use vectors::fields::Fields;
+use vectors::lent::{Lent, Place, Size};
+use vectors::tally::{Outcome, Row};
 
 #[derive(Clone, Copy)]
 pub struct Check {
-    pub call: u8,
     pub include_index: bool,
     pub number: usize,
     pub entry: usize,
-    // How many places are lent for the answer.
-    pub room: usize,
     // The number returned: 0 or a refusal's, or the length of the bytes.
-    pub returned: usize,
-    // How many of the places lent hold the answer; the others stay as they were.
-    pub held: usize,
-    // Where the answer stands in the checks.
-    pub at: usize,
+    returned: usize,
+    lent: Size,
 }
 
-fn size(n: u64) -> usize {
-    n as usize
-}
-
-pub fn read(checks: &[u8], at: usize) -> Check {
-    Check {
-        call: fields::byte(checks, at),
-        include_index: fields::byte(checks, fields::behind(at, 1)) != 0,
-        number: size(fields::u64_at(checks, fields::behind(at, 8))),
-        entry: size(fields::u64_at(checks, fields::behind(at, 16))),
-        room: size(fields::u16_at(checks, fields::behind(at, 2))),
-        returned: size(fields::u16_at(checks, fields::behind(at, 4))),
-        held: size(fields::u16_at(checks, fields::behind(at, 6))),
-        at: fields::behind(at, 24),
+impl Check {
+    // Behind the number of its call.
+    pub fn read(checks: &mut Fields<'_>) -> Check {
+        let include_index = checks.u8() != 0;
+        let room = usize::from(checks.u16());
+        let returned = usize::from(checks.u16());
+        let held = usize::from(checks.u16());
+        Check {
+            include_index,
+            number: checks.u64() as usize,
+            entry: checks.u64() as usize,
+            returned,
+            lent: Size { room, held },
+        }
     }
-}
 
-// The calls up to number 18 answer numbers, the others bytes.
-pub fn answers_bytes(c: Check) -> bool {
-    18 < c.call
-}
-
-// Where the next check stands: the answer has 8 bytes for a number, 1 for a byte.
-pub fn next(c: Check) -> usize {
-    if answers_bytes(c) {
-        return fields::behind(c.at, c.held);
+    // Of a call that answers numbers.
+    pub fn numbers<F: FnOnce(&mut [u64]) -> u32>(self, checks: &mut Fields<'_>, call: F) -> Outcome
+        requires { F.IsAlwaysCallable call }
+    {
+        let lent = Lent::read::<u64>(self.lent, checks);
+        Outcome {
+            row: Row::Returned(self.returned),
+            right: lent.right(&mut [u64::BEFORE; 64], |values| {
+                call(values) as usize == self.returned
+            }),
+        }
     }
-    fields::behind_u64s(c.at, c.held)
+
+    // Of a call that answers bytes.
+    pub fn bytes<F: FnOnce(&mut [u8]) -> usize>(self, checks: &mut Fields<'_>, call: F) -> Outcome
+        requires { F.IsAlwaysCallable call }
+    {
+        let lent = Lent::read::<u8>(self.lent, checks);
+        Outcome {
+            row: Row::Bytes,
+            right: lent.right(&mut [u8::BEFORE; 4096], |output| {
+                call(output) == self.returned
+            }),
+        }
+    }
 }

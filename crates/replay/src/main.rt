@@ -2,14 +2,30 @@
 // otherwise. In the second file one number is changed, to show that this is seen.
 #![tactic(auto)]
 
-mod byte_calls;
+mod calls;
 mod check;
-mod file;
-mod number_calls;
 
 use std::io;
+use std::rt::Files;
+use vectors::file;
+use vectors::tally::Row;
+
+// Makes the checks of a file and says how they came out.
+fn replay<R: Files + Print + Eprint>(rt: &R, path: &[u8]) -> io::Result<()> {
+    let Some(tally) = file::replay(rt, path, calls::make)? else {
+        return Ok(());
+    };
+    println!(rt; "read: {}", tally.count(Row::Returned(0)))?;
+    for refusal in [1, 2, 19, 20] {
+        println!(rt;
+            "refused {refusal}: {}",
+            tally.count(Row::Returned(refusal))
+        )?;
+    }
+    println!(rt; "bytes: {}", tally.count(Row::Bytes))
+}
 
 fn main(rt: HostRuntime) -> io::Result<()> {
-    file::replay(&rt, b"vectors")?;
-    file::replay(&rt, b"broken")
+    replay(&rt, b"vectors")?;
+    replay(&rt, b"broken")
 }

@@ -1,4 +1,5 @@
 // Document 01's section of 340 zero bytes, and the same with its bone count, at 260, -1.
+use crate::put::put;
 
 pub fn zeros() -> [u8; 340] {
     [0; 340]
@@ -6,9 +7,6 @@ pub fn zeros() -> [u8; 340] {
 
 pub fn negative_count() -> [u8; 340] {
     let mut s = zeros();
-    s[260] = 255;
-    s[261] = 255;
-    s[262] = 255;
-    s[263] = 255;
+    put(&mut s, 260, (-1i32).to_le_bytes());
     s
 }

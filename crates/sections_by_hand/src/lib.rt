@@ -2,5 +2,7 @@
 #![tactic(auto)]
 
 pub mod bones;
+pub mod cases;
 pub mod empty;
 pub mod morphs;
+mod put;

@@ -1,71 +1,68 @@
-// What the strip call answered and what it left in the slices, as one line.
-use binary::counts::Refusal;
+// What the strip call answered and what it left in the slices, as they are printed.
 use chains::fault::Fault;
-use std::io;
-use strip_call::answer::{Strip, StripRefusal};
+use std::fmt;
+use strip_call::answer::{Built, StripRefusal};
 
-fn say_reading(rt: &impl Print, why: Refusal) -> io::Result<()> {
-    match why {
-        Refusal::TooShort(at) => print!(rt; "1 at {at}"),
-        Refusal::NegativeCount(at) => print!(rt; "2 at {at}"),
-        Refusal::CountAboveLimit(at) => print!(rt; "20 at {at}"),
-        Refusal::TooLong => print!(rt; "16"),
-        Refusal::Absent => print!(rt; "19"),
-    }
-}
+#[derive(Clone, Copy)]
+pub struct Answer(pub Result<Built, StripRefusal>);
 
-fn say_fault(rt: &impl Print, count: usize, fault: Fault) -> io::Result<()> {
-    match fault {
-        Fault::NegativeIndex(index) => print!(rt; "3: {index}"),
-        Fault::IndexBelowCount(index) => print!(rt; "4: {index} {count}"),
-        Fault::RepeatedIndex(index) => print!(rt; "5: {index}"),
-        Fault::Missing(track, link) => print!(rt; "6: {track} {link}"),
-        Fault::Cycle(track, link) => print!(rt; "7: {track} {link}"),
-        Fault::Wrong(track, link, found, expected) => {
-            print!(rt; "8: {track} {link} {found} {expected}")
+impl fmt::Display for Answer {
+    fn fmt<W: fmt::Write>(&self, f: &mut fmt::Formatter<W>) -> fmt::Result {
+        match self.0 {
+            Ok(built) => write!(
+                f,
+                "length {} reached {} loose {}",
+                built.length, built.reached, built.loose
+            ),
+            Err(StripRefusal::Reading(why)) => write!(f, "refused {why}"),
+            Err(StripRefusal::Bones(count, fault) | StripRefusal::Morphs(count, fault)) => {
+                write!(f, "refused {}", Met { count, fault })
+            }
+            Err(StripRefusal::WorkTooShort(need)) => write!(f, "refused 17: {need}"),
+            Err(StripRefusal::OutputTooShort(length)) => write!(f, "refused 18: {length}"),
         }
-        Fault::NegativeFrame(track, frame) => print!(rt; "10: {track} {frame}"),
-        Fault::RepeatedFrame(track, frame) => print!(rt; "11: {track} {frame}"),
-        Fault::Translation(bone, frame) => print!(rt; "12: {} {frame}", bone.0),
-        Fault::Orientation(bone, frame) => print!(rt; "13: {} {frame}", bone.0),
-        Fault::Weight(morph, frame) => print!(rt; "14: {} {frame}", morph.0),
-        Fault::Disconnected(records) => print!(rt; "15: {records}"),
     }
 }
 
-fn say_refusal(rt: &impl Print, why: StripRefusal) -> io::Result<()> {
-    print!(rt; "refused ")?;
-    match why {
-        StripRefusal::Reading(reading) => say_reading(rt, reading),
-        StripRefusal::Bones(count, fault) => say_fault(rt, count, fault),
-        StripRefusal::Morphs(count, fault) => say_fault(rt, count, fault),
-        StripRefusal::WorkTooShort(need) => print!(rt; "17: {need}"),
-        StripRefusal::OutputTooShort(length) => print!(rt; "18: {length}"),
+// What the build of one kind met, and how many tracks the kind has.
+#[derive(Clone, Copy)]
+struct Met {
+    count: usize,
+    fault: Fault,
+}
+
+impl fmt::Display for Met {
+    fn fmt<W: fmt::Write>(&self, f: &mut fmt::Formatter<W>) -> fmt::Result {
+        let count = self.count;
+        write!(f, "{}: ", self.fault.number())?;
+        match self.fault {
+            Fault::NegativeIndex(index) | Fault::RepeatedIndex(index) => write!(f, "{index}"),
+            Fault::IndexBelowCount(index) => write!(f, "{index} {count}"),
+            Fault::Missing(track, link) | Fault::Cycle(track, link) => write!(f, "{track} {link}"),
+            Fault::Wrong(track, link, found, expected) => {
+                write!(f, "{track} {link} {found} {expected}")
+            }
+            Fault::NegativeFrame(track, frame) | Fault::RepeatedFrame(track, frame) => {
+                write!(f, "{track} {frame}")
+            }
+            Fault::Translation(bone, frame) | Fault::Orientation(bone, frame) => {
+                write!(f, "{} {frame}", bone.0)
+            }
+            Fault::Weight(morph, frame) => write!(f, "{} {frame}", morph.0),
+            Fault::Disconnected(records) => write!(f, "{records}"),
+        }
     }
 }
 
-fn say_built(rt: &impl Print, length: usize, reached: usize, loose: usize) -> io::Result<()> {
-    print!(rt; "length {length} reached {reached} loose {loose}")
-}
+// The places of a work slice, each behind a space.
+#[derive(Clone, Copy)]
+pub struct Work<'a>(pub &'a [u16]);
 
-pub fn say_answer(rt: &impl Print, answer: Strip) -> io::Result<()> {
-    match answer {
-        Strip::Built(length, reached, loose) => say_built(rt, length, reached, loose),
-        Strip::Refused(why) => say_refusal(rt, why),
+impl fmt::Display for Work<'_> {
+    fn fmt<W: fmt::Write>(&self, f: &mut fmt::Formatter<W>) -> fmt::Result {
+        for place in self.0 {
+            write!(f, " {place}")?;
+        }
+        Ok(())
     }
-}
-
-pub fn say_work(rt: &impl Print, what: &str, work: &[u16]) -> io::Result<()> {
-    print!(rt; "{what}")?;
-    for place in work {
-        print!(rt; " {place}")?;
-    }
-    Ok(())
-}
-
-pub fn say_output(rt: &impl Print, output: &[u8]) -> io::Result<()> {
-    for byte in output {
-        print!(rt; "{byte:02x}")?;
-    }
-    println!(rt)
 }

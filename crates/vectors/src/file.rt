@@ -1,130 +1,98 @@
 // The sections of a file, one after the other, each with its checks.
-use crate::{fields, tally};
+use crate::fields::Fields;
+use crate::tally::{Outcome, Tally};
 use std::io;
 use std::io::Read;
 use std::rt::Files;
 
-// The section that stands in the space lent for it, and its check that comes next.
 #[derive(Clone, Copy)]
-pub struct Place {
-    // Whether there is no section left.
-    pub ended: bool,
+pub struct Section<'a> {
+    pub bytes: &'a [u8],
     pub start: usize,
-    pub section_length: usize,
-    pub checks_length: usize,
-    // Where the check stands; at the length there is none left.
-    pub at: usize,
 }
 
-fn without_section(ended: bool) -> Place {
-    Place {
-        ended,
-        start: 0,
-        section_length: 0,
-        checks_length: 0,
-        at: 0,
+// What stands before a section.
+#[derive(Clone, Copy)]
+struct Head {
+    start: usize,
+    section_length: usize,
+    checks_length: usize,
+}
+
+fn next_head(file: &mut impl Read) -> io::Result<Option<Head>> {
+    let mut bytes = [0; 16];
+    if files::read_full(file, &mut bytes)? < 16 {
+        return Ok(None);
     }
+    let mut fields = Fields::new(&bytes);
+    Ok(Some(Head {
+        start: fields.u64() as usize,
+        section_length: fields.u32() as usize,
+        checks_length: fields.u32() as usize,
+    }))
 }
 
-// Before the first section.
-pub fn begin() -> Place {
-    without_section(false)
-}
-
-fn end() -> Place {
-    without_section(true)
-}
-
-fn size(n: u64) -> usize {
-    n as usize
-}
-
-// Where the file ends early the places behind keep what they held.
-fn fill(file: &mut impl Read, section: &mut [u8], checks: &mut [u8]) -> io::Result<()> {
-    files::read_full(file, section)?;
-    files::read_full(file, checks)?;
-    Ok(())
-}
-
-// The section that comes next in the file, counted. One that is longer than the space for it ends the file.
-fn next_section(
+// Makes the checks of the file and counts them. A section that is longer than the space for it ends the file; where the file ends
+// early the places behind keep what they held.
+fn every_check<F: Fn(Section<'_>, &mut Fields<'_>) -> Outcome>(
     file: &mut impl Read,
-    section: &mut [u8],
-    checks: &mut [u8],
-    tally: &mut [u64; 64],
-) -> io::Result<Place> {
-    let mut head = [0u8; 16];
-    if files::read_full(file, &mut head)? < 16 {
-        return Ok(end());
-    }
-    let section_length = size(fields::u32_at(&head, 8));
-    let checks_length = size(fields::u32_at(&head, 12));
-    if section.len() < section_length {
-        return Ok(end());
-    }
-    if checks.len() < checks_length {
-        return Ok(end());
-    }
-    fill(
-        file,
-        &mut section[0..section_length],
-        &mut checks[0..checks_length],
-    )?;
-    tally::add(tally, tally::SECTIONS);
-    Ok(Place {
-        ended: false,
-        start: size(fields::u64_at(&head, 0)),
-        section_length,
-        checks_length,
-        at: 0,
-    })
-}
-
-// The check at the place or, where none is left of its section, the first one of the next section. Every section has one.
-pub fn next_check(
-    file: &mut impl Read,
-    section: &mut [u8],
-    checks: &mut [u8],
-    place: Place,
-    tally: &mut [u64; 64],
-) -> io::Result<Place> {
-    if place.at < place.checks_length {
-        return Ok(place);
-    }
-    next_section(file, section, checks, tally)
-}
-
-// The same section with another check.
-pub fn moved(place: Place, at: usize) -> Place {
-    Place {
-        ended: place.ended,
-        start: place.start,
-        section_length: place.section_length,
-        checks_length: place.checks_length,
-        at,
-    }
-}
-
-// Nothing where the file cannot be opened, which is told; std opens no file whose name is not text.
-pub fn open<R: Files + Eprint>(rt: &R, path: &[u8]) -> io::Result<Option<R::File>> {
-    match str::from_utf8(path) {
-        Ok(name) => files::open(rt, name),
-        Err(error) => {
-            eprintln!(rt; "{error}")?;
-            Ok(None)
+    make: F,
+) -> io::Result<Tally>
+    requires { F.IsAlwaysCallable make }
+{
+    let mut section_space = [0u8; 4096];
+    let mut checks_space = [0u8; 65536];
+    let mut tally = Tally::default();
+    // No file here has so many sections; an endless one is left.
+    for _ in 0..1000000u64 {
+        let Some(head) = next_head(file)? else {
+            break;
+        };
+        let Some(bytes) = section_space.get_mut(..head.section_length) else {
+            break;
+        };
+        let Some(checks) = checks_space.get_mut(..head.checks_length) else {
+            break;
+        };
+        files::read_full(file, bytes)?;
+        files::read_full(file, checks)?;
+        tally.add_section();
+        let section = Section {
+            bytes,
+            start: head.start,
+        };
+        let mut fields = Fields::new(checks);
+        // A check has a byte or more.
+        for _ in 0..head.checks_length {
+            if fields.is_empty() {
+                break;
+            }
+            tally.add(make(section, &mut fields));
         }
     }
+    Ok(tally)
 }
 
-// Closes the file and begins to tell how its checks came out.
-pub fn close(
-    rt: &impl Print,
-    file: impl Read + Drop,
+// Makes the checks of a file and begins to tell how they came out. Nothing where it cannot be opened, which is told; a path is bytes,
+// and std opens no file whose name is not text.
+pub fn replay<R: Files + Print + Eprint, F: Fn(Section<'_>, &mut Fields<'_>) -> Outcome>(
+    rt: &R,
     path: &[u8],
-    tally: &[u64; 64],
-) -> io::Result<()> {
-    drop(file);
-    rt.write_all(path)?;
-    println!(rt; ":")?;
-    tally::say_sizes(rt, tally)
+    make: F,
+) -> io::Result<Option<Tally>>
+    requires { F.IsAlwaysCallable make }
+{
+    let name = match str::from_utf8(path) {
+        Ok(name) => name,
+        Err(error) => {
+            eprintln!(rt; "{error}")?;
+            return Ok(None);
+        }
+    };
+    let Some(mut file) = files::open(rt, name)? else {
+        return Ok(None);
+    };
+    let tally = every_check(&mut file, make)?;
+    println!(rt; "{name}:\n{tally}")?;
+    Ok(Some(tally))
 }

@@ -4,7 +4,5 @@
 
 pub mod fields;
 pub mod file;
-pub mod lent_bytes;
-pub mod lent_numbers;
-pub mod lent_places;
+pub mod lent;
 pub mod tally;

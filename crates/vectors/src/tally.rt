@@ -1,61 +1,90 @@
-// Counts of checks by what they are to answer: a refusal's number, 0 where the call refuses nothing, or the row of the calls that
-// answer bytes.
-use std::io;
+// Counts of checks by what they are to answer.
+ghost use Rattle.std.specs.Prelude.{◌≡◌};
+ghost use Rattle.vectors.specs.Tally.{counted, one_more, added, count_of};
 
-// How many rows there are; those of the wrong answers stand behind them.
-pub const ROWS: usize = 32;
+use std::fmt;
 
-pub const BYTES: usize = 31;
-// The rows of the sections and of all checks.
-pub const SECTIONS: usize = 30;
-
-pub const CHECKS: usize = 29;
-
-fn more(n: u64) -> u64 {
-    if n < 1000000 {
-        return n + 1;
-    }
-    n
+#[derive(Clone, Copy)]
+pub enum Row {
+    // 0 where the call refuses nothing, or the refusal's number.
+    Returned(usize),
+    Bytes,
 }
 
-pub fn add(tally: &mut [u64; 64], row: usize) {
-    if row < 64 {
-        tally[row] = more(tally[row]);
-    }
+// How a check came out.
+#[derive(Clone, Copy)]
+pub struct Outcome {
+    pub row: Row,
+    pub right: bool,
 }
 
-pub fn add_check(tally: &mut [u64; 64], row: usize, right: bool) {
-    if row < ROWS {
-        add(tally, row);
+#[derive(Clone, Copy, Default)]
+pub struct Count {
+    pub made: u64,
+    pub wrong: u64,
+}
+
+impl Count {
+    fn add(&mut self, right: bool)
+        ensures { self.new ≡ counted right self.old }
+    {
+        self.made = self.made.saturating_add(1);
         if !right {
-            add(tally, row + ROWS);
+            self.wrong = self.wrong.saturating_add(1);
         }
     }
 }
 
-fn count(tally: &[u64; 64], row: usize) -> u64 {
-    if row < 64 {
-        return tally[row];
+impl fmt::Display for Count {
+    fn fmt<W: fmt::Write>(&self, f: &mut fmt::Formatter<W>) -> fmt::Result {
+        write!(f, "{} wrong {}", self.made, self.wrong)
     }
-    0
 }
 
-fn say(rt: &impl Print, what: &[u8], n: u64) -> io::Result<()> {
-    rt.write_all(what)?;
-    print!(rt; "{n}")
+#[derive(Clone, Copy, Default)]
+pub struct Tally {
+    pub sections: u64,
+    pub checks: u64,
+    // Refusals have numbers up to 20.
+    pub returned: [Count; 21],
+    pub bytes: Count,
 }
 
-pub fn say_row(rt: &impl Print, what: &[u8], tally: &[u64; 64], row: usize) -> io::Result<()> {
-    if row < ROWS {
-        say(rt, what, count(tally, row))?;
-        say(rt, b" wrong ", count(tally, row + ROWS))?;
-        println!(rt)?;
+impl Tally {
+    pub fn add_section(&mut self)
+        ensures { self.new ≡ record self.old { sections = one_more self.old.sections } }
+    {
+        self.sections = self.sections.saturating_add(1);
     }
-    Ok(())
+
+    #[tactic(auto, unfolding(crate::specs::Tally::added))]
+    pub fn add(&mut self, check: Outcome)
+        ensures { self.new ≡ added check.row check.right self.old }
+    {
+        self.checks = self.checks.saturating_add(1);
+        match check.row {
+            Row::Returned(number) => {
+                if number < self.returned.len() {
+                    self.returned[number].add(check.right);
+                }
+            }
+            Row::Bytes => self.bytes.add(check.right),
+        }
+    }
+
+    #[tactic(auto, unfolding(crate::specs::Tally::count_of))]
+    pub fn count(&self, row: Row) -> Count
+        ensures { result ≡ count_of row self.now }
+    {
+        match row {
+            Row::Returned(number) => self.returned.get(number).copied().unwrap_or_default(),
+            Row::Bytes => self.bytes,
+        }
+    }
 }
 
-pub fn say_sizes(rt: &impl Print, tally: &[u64; 64]) -> io::Result<()> {
-    say(rt, b"sections ", count(tally, SECTIONS))?;
-    say(rt, b"\nchecks ", count(tally, CHECKS))?;
-    println!(rt)
+impl fmt::Display for Tally {
+    fn fmt<W: fmt::Write>(&self, f: &mut fmt::Formatter<W>) -> fmt::Result {
+        write!(f, "sections {}\nchecks {}", self.sections, self.checks)
+    }
 }

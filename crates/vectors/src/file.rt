@@ -62,7 +62,8 @@ fn every_check<F: Fn(Section<'_>, &mut Fields<'_>) -> Outcome>(
             start: head.start,
         };
         let mut fields = Fields::new(checks);
-        // A check has a byte or more.
+        // Every section has a check, and a check has a byte or more.
+        tally.add(make(section, &mut fields));
         for _ in 0..head.checks_length {
             if fields.is_empty() {
                 break;

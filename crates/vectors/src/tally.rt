@@ -64,6 +64,7 @@ impl Tally {
         self.checks = self.checks.saturating_add(1);
         match check.row {
             Row::Returned(number) => {
+                // Not `get_mut`: nothing is known of the array after what it lends.
                 if number < self.returned.len() {
                     self.returned[number].add(check.right);
                 }

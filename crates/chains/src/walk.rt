@@ -26,15 +26,17 @@ impl<'a> Indexed<'a> {
         ensures list_len_unchanged { length list.new ≡ length list.old }
         ensures result_bound { IfOk result (λ n. n ≤ self.now.records.block.records.count) }
     {
-        let mut link = self.records.first_link(track);
+        // A copy, so that the list written does not make the processor read it again.
+        let indexed = *self;
+        let mut link = indexed.records.first_link(track);
         let mut expected = track as u32;
         let mut n = 0;
         let mut near = Near::default();
         while link != 0 {
-            let Some(at) = self.lookup(link, near) else {
+            let Some(at) = indexed.lookup(link, near) else {
                 return Err(Fault::Missing(track, link));
             };
-            let previous = self.records.previous_at(at.position);
+            let previous = indexed.records.previous_at(at.position);
             if previous != expected {
                 if listed(&list[..n], at.position) {
                     return Err(Fault::Cycle(track, link));
@@ -45,7 +47,7 @@ impl<'a> Indexed<'a> {
             n += 1;
             expected = link;
             near = near.after(at.place);
-            link = self.records.next_at(at.position);
+            link = indexed.records.next_at(at.position);
         }
         Ok(n)
     }

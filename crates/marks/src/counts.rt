@@ -1,12 +1,13 @@
 // The records that no chain holds: "calling a record loose when only one link is 0" is a mistake that document 01 names.
 ghost use Rattle.std.specs.Prelude.{◌≡◌, ◌<◌};
 ghost use Rattle.strip.specs.Work.{each, track_mark};
+ghost use Rattle.clip.specs.Scan.{Indexed};
 ghost use Rattle.clip.specs.Build.{both_links_zero, links_followed};
 ghost use Rattle.chains.specs.Block.{kind_of, links};
+ghost use Rattle.chains.specs.Walk.{AllEnd};
 ghost use Rattle.marks.specs.Marks.{counts_of};
 
 use chains::block::Records;
-use chains::chain::Chains;
 
 #[derive(Clone, Copy, Debug, PartialEq, Eq)]
 pub struct Counts {
@@ -24,13 +25,14 @@ fn unlinked(records: &Records, p: usize) -> bool
     (previous == 0) & (next == 0)
 }
 
-// The counts, where so many links were followed. If these are as many as the records, no record is left.
-pub fn count(chains: &Chains, marks: &[u16], reached: usize) -> Counts
-    requires reached_value { reached ≡ links_followed (kind_of chains.now.indexed.records.block.kind) (links chains.now.indexed.records.section.now chains.now.indexed.records.block) }
-    requires marks_value { marks.now ≡ each chains.now.indexed.records.block.records.count (track_mark (kind_of chains.now.indexed.records.block.kind) (links chains.now.indexed.records.section.now chains.now.indexed.records.block)) }
-    ensures { result ≡ counts_of chains.now.indexed.records.section.now chains.now.indexed.records.block }
+// The counts, where every chain ends and so many links were followed. If these are as many as the records, no record is left.
+pub fn count(records: &Records, marks: &[u16], reached: usize) -> Counts
+    requires indexed { Indexed (links records.now.section.now records.now.block) }
+    requires all_end { AllEnd records.now.section.now records.now.block }
+    requires reached_value { reached ≡ links_followed (kind_of records.now.block.kind) (links records.now.section.now records.now.block) }
+    requires marks_value { marks.now ≡ each records.now.block.records.count (track_mark (kind_of records.now.block.kind) (links records.now.section.now records.now.block)) }
+    ensures { result ≡ counts_of records.now.section.now records.now.block }
 {
-    let records = &chains.indexed.records;
     if reached == records.block.records.count {
         return Counts {
             disconnected: 0,

@@ -48,5 +48,5 @@ pub fn mark(chains: &Chains, marks: &mut [u16]) -> Counts
 {
     bits::clear(marks);
     let reached = mark_tracks(chains, marks);
-    counts::count(chains, marks, reached)
+    counts::count(&chains.indexed.records, marks, reached)
 }

@@ -22,7 +22,7 @@ fn behind(records: &Records, p: usize, expected: u32, frame: u32) -> bool
         return false;
     }
     let body = records.body_at(p);
-    key::fine(records, here, body)
+    key::fine(records.section, records.block.kind, here, body)
 }
 
 // How many links were followed, if nothing else was found. The chain may not end, so its links are looked up and tested one by one.
@@ -63,9 +63,11 @@ fn mark_tracks(indexed: &Indexed, marks: &mut [u16]) -> Option<usize>
     ensures tracks_marked { TracksMarked indexed.now.records.section.now indexed.now.records.block marks.new result }
     ensures marks_len_unchanged { length marks.new ≡ length marks.old }
 {
+    // A copy, so that the marks written do not make the processor read it again.
+    let indexed = *indexed;
     let mut reached = 0;
     for track in 0..indexed.records.block.initials.count {
-        reached += mark_chain(indexed, track, marks)?;
+        reached += mark_chain(&indexed, track, marks)?;
     }
     Some(reached)
 }

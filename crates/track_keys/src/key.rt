@@ -9,7 +9,7 @@ ghost use Rattle.track_keys.specs.Keys.{frame_meets, asked_at, key_meets};
 ghost use Rattle.track_keys.specs.MorphKeys.{morph_key_read, morph_key};
 ghost use Rattle.chains.specs.declared.block.Kind.{Kind};
 
-use chains::block::{Kind, Records};
+use chains::block::Kind;
 use chains::fault::{BoneIndex, Fault, MorphIndex};
 use keys::body::{BoneBody, MorphBody};
 use keys::pose;
@@ -77,26 +77,23 @@ pub fn morph_key(s: &[u8], track: MorphIndex, frame: u32, body: usize, repeated:
 }
 
 pub fn key(
-    records: &Records,
+    s: &[u8],
+    kind: Kind,
     track: usize,
     frame: u32,
     body: usize,
     repeated: bool,
 ) -> Result<(), Fault>
-    requires kind_in_bounds { body + body_size records.now.block.kind ≤ length records.now.section.now }
+    requires kind_in_bounds { body + body_size kind ≤ length s.now }
     requires track_bound { track < 4294967296 }
-    ensures { met_read (kind_of records.now.block.kind) records.now.block.initials.count result ≡ key_meets records.now.section.now records.now.block.kind track frame body repeated }
+    ensures { (count : ℕ) → met_read (kind_of kind) count result ≡ key_meets s.now kind track frame body repeated }
 {
-    let kind = records.block.kind;
-    let section = records.section;
     match kind {
-        Kind::Bone => bone_key(section, BoneIndex(track as u32), frame, body, repeated),
-        Kind::Morph => {
-            match morph_key(section, MorphIndex(track as u32), frame, body, repeated) {
-                MorphKey::Key(_, _) => Ok(()),
-                MorphKey::Refused(fault) => Err(fault),
-            }
-        }
+        Kind::Bone => bone_key(s, BoneIndex(track as u32), frame, body, repeated),
+        Kind::Morph => match morph_key(s, MorphIndex(track as u32), frame, body, repeated) {
+            MorphKey::Key(_, _) => Ok(()),
+            MorphKey::Refused(fault) => Err(fault),
+        },
     }
 }
 
@@ -124,12 +121,12 @@ fn body_fine(s: &[u8], kind: Kind, body: usize) -> bool
 }
 
 // Whether a key whose frame is not repeated meets nothing, as nearly every key does; what another meets is worked out only then.
-pub fn fine(records: &Records, frame: u32, body: usize) -> bool
-    requires { body + body_size records.now.block.kind ≤ length records.now.section.now }
-    ensures { result ≡ true → (track : ℕ) → none ≡ key_meets records.now.section.now records.now.block.kind track frame body false }
+pub fn fine(s: &[u8], kind: Kind, frame: u32, body: usize) -> bool
+    requires { body + body_size kind ≤ length s.now }
+    ensures { result ≡ true → (track : ℕ) → none ≡ key_meets s.now kind track frame body false }
 {
     if 2147483648 <= frame {
         return false;
     }
-    body_fine(records.section, records.block.kind, body)
+    body_fine(s, kind, body)
 }

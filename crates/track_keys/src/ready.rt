@@ -24,7 +24,14 @@ pub fn initial_key(records: &Records, track: usize) -> Result<(), Fault>
 {
     let frame = records.first_frame(track);
     let body = records.first_body(track);
-    key::key(records, track, frame, body, false)
+    key::key(
+        records.section,
+        records.block.kind,
+        track,
+        frame,
+        body,
+        false,
+    )
 }
 
 pub fn make_ready(indexed: &Indexed, track: usize, list: &mut [u16]) -> Result<Keys, Fault>

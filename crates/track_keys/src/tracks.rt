@@ -18,7 +18,14 @@ pub fn record_key(records: &Records, track: usize, p: usize, repeated: bool) -> 
 {
     let frame = records.frame_at(p);
     let body = records.body_at(p);
-    key::key(records, track, frame, body, repeated)
+    key::key(
+        records.section,
+        records.block.kind,
+        track,
+        frame,
+        body,
+        repeated,
+    )
 }
 
 // Nested loops over tracks and keys, left by the label at the first refusal, as document 01 names them ("Forms by place in the code").

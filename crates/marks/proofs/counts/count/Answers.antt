@@ -11,7 +11,7 @@ use Rattle.marks.proofs.counts.count.Goals.{then-mark-eq0+then-unlinked, then-ma
 
 pub returns-then-reached-records : goal.returns-then-reached-records
 returns-then-reached-records c =
-    let none_left = all-reached _ _ c.args.chains.now.indexed.ordered.indexed c.args.chains.now.all_end (sym c.requires.reached_value ∙ c.if-reached-records.true) in
+    let none_left = all-reached _ _ c.requires.indexed c.requires.all_end (sym c.requires.reached_value ∙ c.if-reached-records.true) in
     rw (sym c.requires.reached_value, none_left.0, none_left.1)
 
 pub loop-p-init : goal.loop-p-init
@@ -26,18 +26,18 @@ pub overflow_add-loose : goal.overflow_add-loose
 overflow_add-loose c =
     let so_far = below c.loop-p.invariant in
     let long = ap length c.requires.marks_value ∙ length-each _ _ in
-    omega (arith, so_far, long, c.loop-p-test.true, c.args.chains.now.indexed.ordered.fits.few_records)
+    omega (arith, so_far, long, c.loop-p-test.true, c.args.records.now.fits.few_records)
 
 pub overflow_add-disconnected : goal.overflow_add-disconnected
 overflow_add-disconnected c =
     let so_far = below c.loop-p.invariant in
     let long = ap length c.requires.marks_value ∙ length-each _ _ in
-    omega (arith, so_far, long, c.loop-p-test.true, c.args.chains.now.indexed.ordered.fits.few_records)
+    omega (arith, so_far, long, c.loop-p-test.true, c.args.records.now.fits.few_records)
 
 pub loop-p-preserved : goal.loop-p-preserved
 loop-p-preserved c =
-    let s = c.args.chains.now.indexed.records.section.now in
-    let b = c.args.chains.now.indexed.records.block in
+    let s = c.args.records.now.section.now in
+    let b = c.args.records.now.block in
     let zero = zero-mark (kind_of b.kind) (links s b) c.loop-p.p in
     let some = some-mark (kind_of b.kind) (links s b) c.loop-p.p in
     let long = ap length c.requires.marks_value ∙ length-each _ _ in

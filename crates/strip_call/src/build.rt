@@ -36,8 +36,7 @@ fn build_tracks(indexed: &Indexed, marks: &mut [u16]) -> Result<Counted, Fault>
     ensures marks_len_unchanged { length marks.new ≡ length marks.old }
 {
     if let Some(reached) = rising::mark_rising(indexed, marks) {
-        let chains = Chains { indexed: *indexed };
-        return report(counts::count(&chains, marks, reached));
+        return report(counts::count(&indexed.records, marks, reached));
     }
     tracks::all_tracks(indexed, marks)?;
     let chains = Chains { indexed: *indexed };

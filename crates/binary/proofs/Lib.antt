@@ -1,4 +1,5 @@
-pub mod Reading
-pub mod Runs
+pub mod NumbersRead
+pub mod Passing
+pub mod RunSizes
 pub mod Skips
 pub mod Zero

@@ -6,4 +6,6 @@ pub mod blocks;
 pub mod counts;
 pub mod groups;
 pub mod numbers;
+pub mod refusal;
+pub mod runs;
 pub mod strings;

@@ -1,94 +1,47 @@
 // Strings at a position: a length byte and as many bytes, or a field of fixed width.
-ghost use Rattle.std.specs.Prelude.{◌≡◌, ◌+◌, ◌≤◌, length, take, drop};
-ghost use Rattle.layout.specs.Walk.{string, fixed_string, before_zero, times};
-ghost use Rattle.binary.specs.Answers.{string_read, skipped};
+ghost use Rattle.std.specs.Prelude.{◌≡◌, ◌==◌};
+ghost use Rattle.std.specs.List.{position};
+ghost use Rattle.layout.specs.Walk.{string, fixed_string, times};
+ghost use Rattle.binary.specs.Answers.{read, skipped};
 
 use crate::numbers;
-use crate::numbers::{ReadU8, Skipped};
+use crate::refusal::{Read, Refusal};
+use layout::Part;
 
-// Where a string's bytes start, how many there are and the position behind them, or the place of what does not fit.
-#[derive(Clone, Copy)]
-pub enum ReadString {
-    Bytes {
-        start: usize,
-        length: usize,
-        next: usize,
-    },
-    Short(usize),
-}
-
-pub fn read_variable_string(s: &[u8], at: usize) -> ReadString
-    ensures { string_read result ≡ string s.now at }
+#[tactic(auto, unfolding(layout::specs::Walk::string, layout::specs::Walk::item))]
+pub fn read_variable_string(s: &[u8], at: usize) -> Read<Part>
+    ensures { read result ≡ string s.now at }
 {
-    match numbers::read_u8(s, at) {
-        ReadU8::Value(b, body) => {
-            let length = b as usize;
-            match numbers::skip(s, body, length) {
-                Skipped::To(next) => ReadString::Bytes {
-                    start: body,
-                    length,
-                    next,
-                },
-                Skipped::Short(place) => ReadString::Short(place),
-            }
-        }
-        ReadU8::Short(place) => ReadString::Short(place),
-    }
+    let (width, offset) = numbers::read_u8(s, at)?;
+    let length = width as usize;
+    let next = numbers::skip(s, offset, length)?;
+    Ok((Part { offset, length }, next))
 }
 
-// How many of the `width` bytes at a position stand before the first zero byte.
-fn before_zero(s: &[u8], at: usize, width: usize) -> usize
-    requires { at + width ≤ length s.now }
-    ensures { result ≡ before_zero (take width (drop at s.now)) }
+fn first_zero(bytes: &[u8]) -> Option<usize>
+    ensures { result ≡ position (λ b. b == 0) bytes.now }
 {
-    let mut i = 0;
-    while i < width {
-        if s[at + i] == 0 {
-            return i;
-        }
-        i = i + 1;
-    }
-    i
+    bytes.iter().position(|byte| *byte == 0)
 }
 
+#[tactic(auto, using(crate::proofs::Zero::before_zero_or), unfolding(layout::specs::Walk::item))]
 // A field of `width` bytes ends before its first zero byte, if it has one.
-pub fn read_fixed_string(s: &[u8], at: usize, width: usize) -> ReadString
-    ensures { string_read result ≡ fixed_string width s.now at }
+pub fn read_fixed_string(s: &[u8], at: usize, width: usize) -> Read<Part>
+    ensures { read result ≡ fixed_string width s.now at }
 {
-    if s.len() < at {
-        return ReadString::Short(at);
-    }
-    if s.len() - at < width {
-        return ReadString::Short(at);
-    }
-    let length = before_zero(s, at, width);
-    ReadString::Bytes {
-        start: at,
-        length,
-        next: at + width,
-    }
+    let next = numbers::skip(s, at, width)?;
+    let length = first_zero(&s[at..next]).unwrap_or(width);
+    Ok((Part { offset: at, length }, next))
 }
 
+#[tactic(auto, using(layout::proofs::Steps::turns))]
 // The position behind `count` strings.
-pub fn skip_strings(s: &[u8], at: usize, count: u32) -> Skipped
+pub fn skip_strings(s: &[u8], at: usize, count: u32) -> Result<usize, Refusal>
     ensures { skipped result ≡ times count string s.now at }
 {
     let mut next = at;
-    let mut left = count;
-    while 0 < left {
-        match read_variable_string(s, next) {
-            ReadString::Bytes {
-                start: _,
-                length: _,
-                next: behind,
-            } => {
-                next = behind;
-                left = left - 1;
-            }
-            ReadString::Short(place) => {
-                return Skipped::Short(place);
-            }
-        }
+    for _ in 0..count {
+        (_, next) = read_variable_string(s, next)?;
     }
-    Skipped::To(next)
+    Ok(next)
 }

@@ -4,9 +4,9 @@ use mathlib.Core.Path.{◌≡◌, refl}
 use lib.Ieee.{span, climb, size, odd, units, round, sum, add, mul, lt, eq, le, of_fields, of_bits}
 use Rattle.layout.specs.Walk.{item, string, times, count, items}
 use Rattle.layout.specs.Records as Table
-use Rattle.binary.specs.Groups.{u32x3, u32x4}
+use Rattle.binary.specs.Groups.{u32s}
 use Rattle.section.specs.Model.{opening, names, entries, counts, view, scroll, front, keyframes, keyframe_blocks, states, ending, model_parts, model_section}
-use Rattle.section.specs.Summary.{sections_of, indices_of, summary_of, model_summary}
+use Rattle.section.specs.Summary.{sections_of, summary_of, model_summary}
 use Rattle.clip.specs.First.{first, any, number, member, total}
 use Rattle.clip.specs.Scan.{index_refusal, scan, record_of}
 use Rattle.clip.specs.Chain.{follow, chain}
@@ -21,5 +21,5 @@ use Rattle.strip.specs.Call.{strip_call}
 use Rattle.cases.specs.Table.{Case, table, given}
 
 pub cases : map (λ (c : Case). given c.asked c.section) table ≡ map (λ (c : Case). c.gives) table
-unfolding item string times count items opening names entries counts u32x3 u32x4 view scroll front keyframes keyframe_blocks states ending model_parts model_section sections_of indices_of summary_of model_summary first any number member total index_refusal scan record_of follow chain key_test squared_length translation_fails orientation_fails pose_asked weight_asked chain_of keys reached_before disconnected links_followed loose records_refusal track_refusal build_refusal bytes_at bone_body morph_body initial_at additional_at records_at bones morphs clip_refusal reached_records loose_records plain_float plain_floats plain_bytes little_endian map_byte present key_bytes keys_bytes track_bytes tracks_bytes strip_of each inserted by_index track_mark first_work second_work strip_call Table.size span climb size odd units round sum add mul lt eq le of_fields of_bits
+unfolding item string times count items opening names entries counts u32s view scroll front keyframes keyframe_blocks states ending model_parts model_section sections_of summary_of model_summary first any number member total index_refusal scan record_of follow chain key_test squared_length translation_fails orientation_fails pose_asked weight_asked chain_of keys reached_before disconnected links_followed loose records_refusal track_refusal build_refusal bytes_at bone_body morph_body initial_at additional_at records_at bones morphs clip_refusal reached_records loose_records plain_float plain_floats plain_bytes little_endian map_byte present key_bytes keys_bytes track_bytes tracks_bytes strip_of each inserted by_index track_mark first_work second_work strip_call Table.size span climb size odd units round sum add mul lt eq le of_fields of_bits
 cases = refl

@@ -6,8 +6,9 @@ ghost use Rattle.lists.specs.Keyframes.{bone_keyframe};
 ghost use Rattle.lists.specs.Parts.{payload_or};
 ghost use Rattle.tracks.specs.Camera.{camera_keyframe, curves_part};
 
-use lists::parts;
+use lists::keyframe;
 use numbers::put;
+use records::bone::PmmDocumentBoneKeyframeSummary;
 use tracks::camera;
 
 #[unsafe(no_mangle)]
@@ -30,10 +31,7 @@ pub extern "C" fn limdroven_camera_interpolation(
 fn put_curves(output: &mut [u8], payload: &[u8]) -> usize
     ensures { Hands (take 16 payload.now) output.old result output.new }
 {
-    if payload.len() < 16 {
-        return put::put_part(output, payload);
-    }
-    put::put_part(output, &payload[0..16])
+    put::put_part(output, &payload[..payload.len().min(16)])
 }
 
 // The curves of x, y, z and rotation, one behind the other; nothing where the record is refused.
@@ -49,6 +47,6 @@ pub extern "C" fn limdroven_bone_interpolation(
 {
     put_curves(
         output,
-        parts::bone_payload(section, start, include_index, number),
+        keyframe::payload::<PmmDocumentBoneKeyframeSummary>(section, start, include_index, number),
     )
 }

@@ -4,8 +4,8 @@ ghost use Rattle.numbers.specs.Answers.{Says};
 ghost use Rattle.lists.specs.ModelLists.{model_keyframe_constraint_state, model_keyframe_outside_parent};
 ghost use Rattle.numbers.specs.States.{flag, pair};
 
-use lists::model_lists::{ModelFlag, ModelPair};
-use numbers::{refusals, states};
+use lists::model_lists;
+use numbers::answers;
 
 #[unsafe(no_mangle)]
 pub extern "C" fn limdroven_model_keyframe_constraint_state(
@@ -18,19 +18,10 @@ pub extern "C" fn limdroven_model_keyframe_constraint_state(
 ) -> u32
     ensures { Says flag (model_keyframe_constraint_state edition1 include_index number entry section.now start) values.old result values.new }
 {
-    match lists::model_lists::model_keyframe_constraint_state(
-        section,
-        start,
-        include_index,
-        number,
-        entry,
-    ) {
-        ModelFlag::Refused(why) => refusals::refused(values, why),
-        ModelFlag::Read(x) => {
-            states::put_flag(values, 0, x);
-            0
-        }
-    }
+    answers::say(
+        model_lists::model_keyframe_constraint_state(section, start, include_index, number, entry),
+        values,
+    )
 }
 
 #[unsafe(no_mangle)]
@@ -44,17 +35,8 @@ pub extern "C" fn limdroven_model_keyframe_outside_parent(
 ) -> u32
     ensures { Says pair (model_keyframe_outside_parent edition1 include_index number entry section.now start) values.old result values.new }
 {
-    match lists::model_lists::model_keyframe_outside_parent(
-        section,
-        start,
-        include_index,
-        number,
-        entry,
-    ) {
-        ModelPair::Refused(why) => refusals::refused(values, why),
-        ModelPair::Read(x) => {
-            states::put_pair(values, 0, x);
-            0
-        }
-    }
+    answers::say(
+        model_lists::model_keyframe_outside_parent(section, start, include_index, number, entry),
+        values,
+    )
 }

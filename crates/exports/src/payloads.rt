@@ -6,9 +6,13 @@ ghost use Rattle.lists.specs.Parts.{payload_or};
 ghost use Rattle.tracks.specs.Camera.{camera_keyframe};
 ghost use Rattle.tracks.specs.Light.{light_keyframe};
 
-use lists::parts;
+use lists::keyframe;
 use numbers::put;
-use tracks::{camera, light};
+use records::bone::PmmDocumentBoneKeyframeSummary;
+use records::model::PmmDocumentModelKeyframeSummary;
+use records::morph::PmmDocumentMorphKeyframeSummary;
+use tracks::camera::CameraKeyframeSummary;
+use tracks::light::LightKeyframeSummary;
 
 #[unsafe(no_mangle)]
 pub extern "C" fn limdroven_bone_payload(
@@ -22,7 +26,7 @@ pub extern "C" fn limdroven_bone_payload(
 {
     put::put_part(
         output,
-        parts::bone_payload(section, start, include_index, number),
+        keyframe::payload::<PmmDocumentBoneKeyframeSummary>(section, start, include_index, number),
     )
 }
 
@@ -38,7 +42,7 @@ pub extern "C" fn limdroven_morph_payload(
 {
     put::put_part(
         output,
-        parts::morph_payload(section, start, include_index, number),
+        keyframe::payload::<PmmDocumentMorphKeyframeSummary>(section, start, include_index, number),
     )
 }
 
@@ -54,7 +58,7 @@ pub extern "C" fn limdroven_model_payload(
 {
     put::put_part(
         output,
-        parts::model_payload(section, start, include_index, number),
+        keyframe::payload::<PmmDocumentModelKeyframeSummary>(section, start, include_index, number),
     )
 }
 
@@ -70,7 +74,7 @@ pub extern "C" fn limdroven_camera_payload(
 {
     put::put_part(
         output,
-        camera::camera_payload(section, start, include_index, number),
+        keyframe::payload::<CameraKeyframeSummary>(section, start, include_index, number),
     )
 }
 
@@ -86,6 +90,6 @@ pub extern "C" fn limdroven_light_payload(
 {
     put::put_part(
         output,
-        light::light_payload(section, start, include_index, number),
+        keyframe::payload::<LightKeyframeSummary>(section, start, include_index, number),
     )
 }

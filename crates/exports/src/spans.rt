@@ -1,34 +1,18 @@
 // Where names and the path stand.
 ghost use Rattle.section.specs.Limits.{edition1};
-ghost use Rattle.std.specs.Prelude.{◌≡◌};
-ghost use Rattle.layout.specs.Walk.{part};
 ghost use Rattle.lists.specs.Texts.{text_of};
 ghost use Rattle.lists.specs.declared.texts.Text.{Text};
-ghost use Rattle.numbers.specs.Put.{put};
 ghost use Rattle.numbers.specs.Answers.{Says};
-ghost use Rattle.exports.specs.Spans.{span};
+ghost use Rattle.numbers.specs.Spans.{span};
 
 use lists::texts;
-use lists::texts::{Text, TextSpan};
-use numbers::{put, refusals};
-
-fn put_span(values: &mut [u64], offset: usize, length: usize)
-    ensures { values.new ≡ put 0 (span (part offset length)) values.old }
-{
-    let numbers = [offset as u64, length as u64];
-    put::put_numbers(values, 0, &numbers);
-}
+use lists::texts::Text;
+use numbers::answers;
 
 fn text_span(section: &[u8], start: usize, text: Text, values: &mut [u64]) -> u32
     ensures { Says span (text_of edition1 text section.now start) values.old result values.new }
 {
-    match texts::text_span(section, start, text) {
-        TextSpan::Refused(why) => refusals::refused(values, why),
-        TextSpan::At { offset, length } => {
-            put_span(values, offset, length);
-            0
-        }
-    }
+    answers::say(texts::text_span(section, start, text), values)
 }
 
 #[unsafe(no_mangle)]

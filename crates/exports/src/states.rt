@@ -4,8 +4,8 @@ ghost use Rattle.numbers.specs.Answers.{Says};
 ghost use Rattle.lists.specs.States.{bone_state, morph_state, constraint_state, outside_parent_state};
 ghost use Rattle.numbers.specs.States.{float, flag, bone_state as bone_state_numbers, outside_parent};
 
-use lists::states::{BoneState, ConstraintState, MorphState, OutsideParentState};
-use numbers::refusals;
+use lists::states;
+use numbers::answers;
 
 #[unsafe(no_mangle)]
 pub extern "C" fn limdroven_bone_state(
@@ -16,13 +16,7 @@ pub extern "C" fn limdroven_bone_state(
 ) -> u32
     ensures { Says bone_state_numbers (bone_state edition1 number section.now start) values.old result values.new }
 {
-    match lists::states::bone_state(section, start, number) {
-        BoneState::Refused(why) => refusals::refused(values, why),
-        BoneState::Read(x) => {
-            numbers::states::put_bone_state(values, x);
-            0
-        }
-    }
+    answers::say(states::bone_state(section, start, number), values)
 }
 
 #[unsafe(no_mangle)]
@@ -34,13 +28,7 @@ pub extern "C" fn limdroven_morph_state(
 ) -> u32
     ensures { Says float (morph_state edition1 number section.now start) values.old result values.new }
 {
-    match lists::states::morph_state(section, start, number) {
-        MorphState::Refused(why) => refusals::refused(values, why),
-        MorphState::Read(x) => {
-            numbers::states::put_float(values, 0, x);
-            0
-        }
-    }
+    answers::say(states::morph_state(section, start, number), values)
 }
 
 #[unsafe(no_mangle)]
@@ -52,13 +40,7 @@ pub extern "C" fn limdroven_constraint_state(
 ) -> u32
     ensures { Says flag (constraint_state edition1 number section.now start) values.old result values.new }
 {
-    match lists::states::constraint_state(section, start, number) {
-        ConstraintState::Refused(why) => refusals::refused(values, why),
-        ConstraintState::Read(x) => {
-            numbers::states::put_flag(values, 0, x);
-            0
-        }
-    }
+    answers::say(states::constraint_state(section, start, number), values)
 }
 
 #[unsafe(no_mangle)]
@@ -70,11 +52,5 @@ pub extern "C" fn limdroven_outside_parent_state(
 ) -> u32
     ensures { Says outside_parent (outside_parent_state edition1 number section.now start) values.old result values.new }
 {
-    match lists::states::outside_parent_state(section, start, number) {
-        OutsideParentState::Refused(why) => refusals::refused(values, why),
-        OutsideParentState::Read(x) => {
-            numbers::states::put_outside_parent(values, 0, x);
-            0
-        }
-    }
+    answers::say(states::outside_parent_state(section, start, number), values)
 }

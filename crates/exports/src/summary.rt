@@ -4,18 +4,12 @@ ghost use Rattle.numbers.specs.Answers.{Says};
 ghost use Rattle.section.specs.Summary.{model_summary};
 ghost use Rattle.numbers.specs.Summary.{model_summary as summary_numbers};
 
-use numbers::refusals;
-use section::summary::ModelSummary;
+use numbers::answers;
+use section::summary;
 
 #[unsafe(no_mangle)]
 pub extern "C" fn limdroven_model_summary(section: &[u8], start: usize, values: &mut [u64]) -> u32
     ensures { Says summary_numbers (model_summary edition1 section.now start) values.old result values.new }
 {
-    match section::summary::read_document_model_summary(section, start) {
-        ModelSummary::Refused(why) => refusals::refused(values, why),
-        ModelSummary::Read(x) => {
-            numbers::summary::put_summary(values, x);
-            0
-        }
-    }
+    answers::say(summary::read_document_model_summary(section, start), values)
 }

@@ -5,31 +5,26 @@ ghost use Rattle.tracks.specs.Track.{track_summary};
 ghost use Rattle.tracks.specs.declared.track.Kind.{Kind};
 ghost use Rattle.numbers.specs.Tracks.{track_summary as track_numbers};
 
-use numbers::refusals;
-use tracks::track::TrackSummary;
+use numbers::answers;
+use tracks::track;
+use tracks::track::Kind;
 
 #[unsafe(no_mangle)]
 pub extern "C" fn limdroven_camera_summary(section: &[u8], start: usize, values: &mut [u64]) -> u32
     ensures { Says track_numbers (track_summary edition1 Kind.Camera section.now start) values.old result values.new }
 {
-    match tracks::track::read_document_camera_summary(section, start) {
-        TrackSummary::Refused(why) => refusals::refused(values, why),
-        TrackSummary::Read(x) => {
-            numbers::track::put_track(values, 0, x);
-            0
-        }
-    }
+    answers::say(
+        track::read_document_track_summary(section, start, Kind::Camera),
+        values,
+    )
 }
 
 #[unsafe(no_mangle)]
 pub extern "C" fn limdroven_light_summary(section: &[u8], start: usize, values: &mut [u64]) -> u32
     ensures { Says track_numbers (track_summary edition1 Kind.Light section.now start) values.old result values.new }
 {
-    match tracks::track::read_document_light_summary(section, start) {
-        TrackSummary::Refused(why) => refusals::refused(values, why),
-        TrackSummary::Read(x) => {
-            numbers::track::put_track(values, 0, x);
-            0
-        }
-    }
+    answers::say(
+        track::read_document_track_summary(section, start, Kind::Light),
+        values,
+    )
 }

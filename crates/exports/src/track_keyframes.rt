@@ -5,9 +5,10 @@ ghost use Rattle.tracks.specs.Camera.{camera_keyframe};
 ghost use Rattle.tracks.specs.Light.{light_keyframe};
 ghost use Rattle.numbers.specs.Tracks.{camera, light};
 
-use numbers::refusals;
-use tracks::camera::CameraKeyframe;
-use tracks::light::LightKeyframe;
+use lists::keyframe::Keyframe;
+use numbers::answers;
+use tracks::camera::CameraKeyframeSummary;
+use tracks::light::LightKeyframeSummary;
 
 #[unsafe(no_mangle)]
 pub extern "C" fn limdroven_camera_keyframe(
@@ -19,13 +20,10 @@ pub extern "C" fn limdroven_camera_keyframe(
 ) -> u32
     ensures { Says camera (camera_keyframe edition1 include_index number section.now start) values.old result values.new }
 {
-    match tracks::camera::camera_keyframe(section, start, include_index, number) {
-        CameraKeyframe::Refused(why) => refusals::refused(values, why),
-        CameraKeyframe::Read(x) => {
-            numbers::camera::put_camera(values, x);
-            0
-        }
-    }
+    answers::say(
+        CameraKeyframeSummary::read(section, start, include_index, number),
+        values,
+    )
 }
 
 #[unsafe(no_mangle)]
@@ -38,11 +36,8 @@ pub extern "C" fn limdroven_light_keyframe(
 ) -> u32
     ensures { Says light (light_keyframe edition1 include_index number section.now start) values.old result values.new }
 {
-    match tracks::light::light_keyframe(section, start, include_index, number) {
-        LightKeyframe::Refused(why) => refusals::refused(values, why),
-        LightKeyframe::Read(x) => {
-            numbers::light::put_light(values, x);
-            0
-        }
-    }
+    answers::say(
+        LightKeyframeSummary::read(section, start, include_index, number),
+        values,
+    )
 }

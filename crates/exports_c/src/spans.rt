@@ -3,7 +3,7 @@ ghost use Rattle.section.specs.Limits.{edition1};
 ghost use Rattle.lists.specs.Texts.{text_of};
 ghost use Rattle.lists.specs.declared.texts.Text.{Text};
 ghost use Rattle.numbers.specs.Answers.{Says};
-ghost use Rattle.exports.specs.Spans.{span};
+ghost use Rattle.numbers.specs.Spans.{span};
 
 #[unsafe(no_mangle)]
 pub extern "C" fn limdroven_name_span(section: &[u8], start: usize, values: &mut [u64]) -> u32

@@ -5,10 +5,8 @@ use native.Mathlib.Omega.{arith}
 use mathlib.Core.Bool.{Bool, true, false}
 use mathlib.Core.List.{List}
 use mathlib.Core.Path.{◌≡◌, refl, sym, ap, ◌∙◌}
-use Rattle.layout.specs.Walk.{Reader, ◌>>=◌, ◌>>◌, give, fine, u32_at, u32, bool, block}
+use Rattle.layout.specs.Walk.{Reader, ◌>>=◌, ◌>>◌, give, here, fine, u32_at, u32, bool, block}
 use Rattle.layout.proofs.Inversion.{came, Was, item-was}
-use Rattle.binary.specs.Groups.{u32x3}
-use Rattle.binary.specs.declared.groups.Bits3.{Bits3}
 use Rattle.records.specs.Base.{base_bits}
 use Rattle.records.specs.Pose.{pose_bits, pose_of, float}
 use Rattle.records.specs.Keyframes.{bone_bits, morph_bits}
@@ -19,9 +17,9 @@ use Rattle.records.specs.declared.morph.MorphBits.{MorphBits}
 use Rattle.clip.specs.Fields.{Initial, Additional, BoneBody}
 use Rattle.clip.specs.Keys.{posed, float_at}
 use Rattle.clip.specs.Section.{bytes_at, bone_body, morph_body, initial_at, additional_at}
-use Rattle.keys.specs.Words.{words3, words4}
+use Rattle.keys.specs.Words.{words}
 use Rattle.keys.proofs.Bodies.{pose-is, weight_is}
-use Rattle.keys.proofs.ItemsRead.{number-was, three-were, pose-was}
+use Rattle.keys.proofs.ItemsRead.{number-was, pose-was}
 
 -- An additional record's base, and an initial one's, whose previous link is no build field.
 pub record AdditionalShown {B : Type 0} (r : Additional B) (b : BaseBits) : Type 0 where
@@ -49,6 +47,15 @@ morph_rest base = do
   selected ← bool
   give (record { base = base; weight = weight; selected = selected })
 
+-- Frame and links, behind an index.
+abbrev base_rest : ℕ → Reader BaseBits
+base_rest index = do
+  frame ← u32
+  previous ← u32
+  next ← u32
+  payload ← here
+  give (record { index = index; frame = frame; previous = previous; next = next; payload_offset = payload })
+
 module _ (s : List ℕ) where
   -- Frame and links from `from` on, and the body behind them.
   record Base (from : ℕ) (b : BaseBits) (next : ℕ) : Type 0 where
@@ -58,43 +65,48 @@ module _ (s : List ℕ) where
     pub payload : from + 12 ≡ b.payload_offset
     pub to : from + 12 ≡ next
 
-  base-made : (index : ℕ) (from i : ℕ) (b : BaseBits) (next : ℕ) (t : Bits3) → Was (words3 s from) (from + 12) t i → fine (record { index = index; frame = t.0; previous = t.1; next = t.2; payload_offset = i }) i ≡ fine b next → (index ≡ b.index) × Base from b next
-  base-made index from i b next t x e =
-      let whole : ◌≡◌ {A = BaseBits} (record { index = index; frame = t.0; previous = t.1; next = t.2; payload_offset = i }) b = cc in
-      let last : i ≡ next = cc in
-      let end = x.to in (
+  base-made : (index : ℕ) (from : ℕ) (b : BaseBits) (next : ℕ) (f p l i j k : ℕ) → Was (u32_at s from) (from + 4) f i → Was (u32_at s i) (i + 4) p j → Was (u32_at s j) (j + 4) l k → fine (record { index = index; frame = f; previous = p; next = l; payload_offset = k }) k ≡ fine b next → (index ≡ b.index) × Base from b next
+  base-made index from b next f p l i j k x y z e =
+      let whole : ◌≡◌ {A = BaseBits} (record { index = index; frame = f; previous = p; next = l; payload_offset = k }) b = cc in
+      let last : k ≡ next = cc in
+      let e1 = x.to in
+      let e2 = y.to in
+      let e3 = z.to in
+      let end : from + 12 ≡ k = omega (arith, e1, e2, e3) in (
         ap (λ (v : BaseBits). v.index) whole,
         record {
-          frame = ap (λ (v : Bits3). v.0) x.is ∙ ap (λ (v : BaseBits). v.frame) whole;
-          previous = ap (λ (v : Bits3). v.1) x.is ∙ ap (λ (v : BaseBits). v.previous) whole;
-          link = ap (λ (v : Bits3). v.2) x.is ∙ ap (λ (v : BaseBits). v.next) whole;
+          frame = x.is ∙ ap (λ (v : BaseBits). v.frame) whole;
+          previous = ap (u32_at s) e1 ∙ y.is ∙ ap (λ (v : BaseBits). v.previous) whole;
+          link = ap (u32_at s) {x = from + 8} {y = j} (omega (arith, e1, e2)) ∙ z.is ∙ ap (λ (v : BaseBits). v.next) whole;
           payload = end ∙ ap (λ (v : BaseBits). v.payload_offset) whole;
           to = end ∙ last;
         },
       )
 
+  -- Frame and links that were read from `at` on, behind an index.
+  rest-made : (index from at : ℕ) (b : BaseBits) (next : ℕ) → from ≡ at → base_rest index s at ≡ fine b next → (index ≡ b.index) × Base from b next
+  rest-made index from at b next to e =
+      let f = came (u32 s at) _ b next e in
+      let p = came (u32 s f.at) _ b next f.rest in
+      let l = came (u32 s p.at) _ b next p.rest in
+      rw to (base-made index at b next f.value p.value l.value f.at p.at l.at (number-was s _ _ _ f.first) (number-was s _ _ _ p.first) (number-was s _ _ _ l.first) l.rest)
+
   additional-base : (at : ℕ) (b : BaseBits) (next : ℕ) → base_bits true s at ≡ fine b next → (u32_at s at ≡ b.index) × Base (at + 4) b next
   unfolding base_bits
   additional-base at b next e =
       let n = came (u32 s at) _ b next e in
-      let t = came (u32x3 s n.at) _ b next n.rest in
-      go n.value n.at t.value t.at (number-was s _ _ _ n.first) t.first t.rest
-    where
-      go : (index i : ℕ) (t : Bits3) (j : ℕ) → Was (u32_at s at) (at + 4) index i → u32x3 s i ≡ fine t j → fine (record { index = index; frame = t.0; previous = t.1; next = t.2; payload_offset = j }) j ≡ fine b next → (u32_at s at ≡ b.index) × Base (at + 4) b next
-      go index i t j n read e =
-          let made = base-made index (at + 4) j b next t (three-were s (at + 4) t j (ap (u32x3 s) n.to ∙ read)) e in
-          (n.is ∙ made.0, made.1)
+      let was = number-was s at n.value n.at n.first in
+      let made = rest-made n.value (at + 4) n.at b next was.to n.rest in
+      (was.is ∙ made.0, made.1)
 
   initial-base : (at : ℕ) (b : BaseBits) (next : ℕ) → base_bits false s at ≡ fine b next → Base at b next
   unfolding base_bits
-  initial-base at b next e =
-      let t = came (u32x3 s at) _ b next e in
-      (base-made 0 at t.at b next t.value (three-were s at t.value t.at t.first) t.rest).1
+  initial-base at b next e = (rest-made 0 at at b next refl e).1
 
   pose-shown : (from j : ℕ) (p : PoseBits) (next : ℕ) → from + 16 ≡ j → pose_bits s j ≡ fine p next → posed (bone_body s from) ≡ pose_of p
   pose-shown from j p next to read =
       let x = pose-was s (from + 16) p next (ap (pose_bits s) to ∙ read) in
-      let pose : ℕ → PoseBits = λ k. record { translation = words3 s (from + 16); orientation = words4 s k } in
+      let pose : ℕ → PoseBits = λ k. record { translation = words 3 s (from + 16); orientation = words 4 s k } in
       let same : from + 28 ≡ from + 16 + 12 = omega arith in
       sym (pose-is s from) ∙ ap pose_of (ap pose same ∙ x.is)
 

@@ -12,7 +12,7 @@ use Rattle.layout.specs.Walk.{u32_at}
 use Rattle.records.specs.Pose.{float, pose_of}
 use Rattle.clip.specs.Keys.{posed, float_at}
 use Rattle.clip.specs.Section.{bytes_at, bone_body, morph_body}
-use Rattle.keys.specs.Words.{words3, words4}
+use Rattle.keys.specs.Words.{words}
 
 pub length-bytes_at : (s : List ℕ) (at n : ℕ) → length (bytes_at s at n) ≡ n
 unfolding bytes_at
@@ -63,10 +63,16 @@ pub weight_is : (s : List ℕ) (at : ℕ) → float (u32_at s at) ≡ float_at (
 unfolding morph_body
 weight_is s at = ap float (sym (first-word-in s at 4 (omega arith)))
 
-pub pose-is : (s : List ℕ) (at : ℕ) → pose_of (record { translation = words3 s (at + 16); orientation = words4 s (at + 28) }) ≡ posed (bone_body s at)
+pub pose-is : (s : List ℕ) (at : ℕ) → pose_of (record { translation = words 3 s (at + 16); orientation = words 4 s (at + 28) }) ≡ posed (bone_body s at)
 unfolding pose_of bone_body
 pose-is s at =
+    let third : at + 16 + 4 + 4 ≡ at + 16 + 8 = omega arith in
+    let fourth : at + 28 + 4 + 4 + 4 ≡ at + 28 + 12 = omega arith in
+    let third' : at + 28 + 4 + 4 ≡ at + 28 + 8 = omega arith in
     rw (
+      third,
+      fourth,
+      third',
       first-word-in s (at + 16) 12 (omega arith),
       word_in s (at + 16) 12 4 (omega arith),
       word_in s (at + 16) 12 8 (omega arith),

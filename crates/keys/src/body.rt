@@ -6,6 +6,7 @@ ghost use Rattle.clip.specs.Section.{bone_body, morph_body, bytes_at};
 
 use binary::numbers;
 use records::pose::Pose;
+use std::num;
 
 #[derive(Clone, Copy)]
 pub struct BoneBody<'a> {
@@ -35,7 +36,7 @@ fn float_at(bytes: &[u8], at: usize) -> f32
     requires { at + 4 ≤ length bytes.now }
     ensures { result ≡ float_at bytes.now at }
 {
-    numbers::float(numbers::u32_at(bytes, at))
+    num::f32_from_bits_with_nan(numbers::u32_at(bytes, at))
 }
 
 #[tactic(auto, unfolding(clip::specs::Section::bone_body))]

@@ -71,19 +71,27 @@ module _ (A : Type 0) (m n : ℕ) (v x y : A) where
   pub if-not-lt : n ≤ m → v ≡ y → v ≡ cond (ltb m n) x y
   if-not-lt h e = rw (le-ltb _ _ h) e
 
--- One turn of a reader that is repeated.
-module _ {A : Type 0} (m : Reader A) (s : List ℕ) (at : ℕ) where
-  pub times-turn : (n : ℕ) (a : A) (next : ℕ) → 0 < n → m s at ≡ fine a next → times n m s at ≡ times (n - 1) m s next
+-- One turn of a reader that is repeated n times, after k turns.
+module _ {A : Type 0} (m : Reader A) (s : List ℕ) (at n k : ℕ) where
+  pub times-turn : (a : A) (next : ℕ) → k < n → fine a next ≡ m s at → times (n - k) m s at ≡ times (n - (k + 1)) m s next
   unfolding times
-  times-turn zero a next some e = absurd (omega arith)
-  times-turn (suc n) a next some e = rw (e, sub-one)
+  times-turn a next more e = turn (n - k) (n - (k + 1)) (omega arith)
+    where
+      turn : (x y : ℕ) → x ≡ suc y → times x m s at ≡ times y m s next
+      turn x y f = rw (f, ← e)
 
-  pub times-stop : (n : ℕ) (why : Refusal) → 0 < n → m s at ≡ refused why → times n m s at ≡ refused why
+  pub times-stop : (why : Refusal) → k < n → refused why ≡ m s at → times (n - k) m s at ≡ refused why
   unfolding times
-  times-stop zero why some e = absurd (omega arith)
-  times-stop (suc n) why some e = rw e
+  times-stop why more e = stop (n - k) (n - (k + 1)) (omega arith)
+    where
+      stop : (x y : ℕ) → x ≡ suc y → times x m s at ≡ refused why
+      stop x y f = rw (f, ← e)
 
-  pub times-done : (n : ℕ) → n ≤ 0 → times n m s at ≡ fine tt at
+  pub times-done : n ≤ k → times (n - k) m s at ≡ fine tt at
   unfolding times
-  times-done zero none = refl
-  times-done (suc n) none = absurd (omega arith)
+  times-done none = done (n - k) (omega arith)
+    where
+      done : (x : ℕ) → x ≡ 0 → times x m s at ≡ fine tt at
+      done x f = rw f
+
+pub ruleset turns = (times-turn, times-stop, times-done)

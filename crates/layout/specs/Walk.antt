@@ -5,6 +5,7 @@ use Rattle.std.specs.Float.Ieee.{of_bits}
 use Rattle.std.specs.Float.{binary32}
 use Rattle.std.specs.Int.{w32}
 use Rattle.std.proofs.Common.{to_z}
+use Rattle.layout.specs.declared.Part.{Part}
 
 -- A refusal: its number in 01, "Turned down, and by whose doing", and the values listed there, in that order.
 pub record Refusal : Type 0 where
@@ -101,10 +102,6 @@ abbrev pub block : ℕ → Reader (Unit {0})
 block width = item width (λ s at. tt)
 
 -- A name or path is "the part of the section that holds it" (module 7): where its bytes stand, and how many they are.
-pub record Part : Type 0 where
-  pub offset : ℕ
-  pub length : ℕ
-
 abbrev pub part : ℕ → ℕ → Part
 part offset length = record { offset = offset; length = length }
 

@@ -1,4 +1,2 @@
-pub mod Reading
-pub mod Handed
 pub mod Spans
 pub mod Curved

@@ -1,4 +1,4 @@
--- Names by number, return by return, and that every text stands in the section. Assumes nothing.
+-- Every text stands in the section. Assumes nothing.
 use Prim.Native.Nat.{ℕ, suc, ◌+◌, ◌≤◌, ◌<◌}
 use mathlib.Core.Bool.{Bool, true, false, cond}
 use mathlib.Core.List.{List, [], ◌∷◌}
@@ -7,34 +7,16 @@ use native.Mathlib.Omega.{arith}
 use lib.Dec.{eqb, ltb}
 use lib.IntN.{pos}
 use lib.ListN.{length, take, drop, length-take, length-drop}
-use Rattle.layout.specs.Walk.{Walk, fine, refused, refusal, after, item, times, Answer, answered, declined, answer, u8, Part, bytes_of, string, before_zero, fixed_string}
-use Rattle.layout.proofs.Steps.{whole, if-lt, if-not-lt}
+use Rattle.layout.specs.Walk.{Walk, fine, refused, refusal, after, item, times, Answer, answered, declined, answer, u8, bytes_of, string, before_zero, fixed_string}
+use Rattle.layout.specs.declared.Part.{Part}
+use Rattle.layout.proofs.Steps.{whole}
 use Rattle.layout.proofs.Inversion.{came, same-value, item-fits}
-use Rattle.binary.specs.Answers.{skipped, string_read}
-use Rattle.binary.proofs.Reading.{skip-goes, skip-stops}
-use Rattle.binary.specs.declared.numbers.Skipped.{Skipped}
-use Rattle.binary.specs.declared.strings.ReadString.{ReadString}
 use Rattle.section.specs.Limits.{Limits}
 use Rattle.section.specs.Model.{model_section}
 use Rattle.section.specs.declared.model.Model.{Model}
 use Rattle.section.specs.declared.names.Names.{Names}
 use Rattle.lists.specs.Texts.{name_at, text_at, text_of}
 use Rattle.lists.specs.declared.texts.Text.{Text}
-
--- What is answered of name k.
-module _ (names : Names) (k : ℕ) (s : List ℕ) where
-  pub name-absent : names.count ≤ k → declined (refusal 19 []) ≡ answer (name_at names k s)
-  unfolding name_at
-  name-absent past = ap answer (if-not-lt _ _ _ _ _ _ past refl)
-
-  module _ (few : k < names.count) (r : Skipped) (skips : skipped r ≡ times k string s names.offset) where
-    pub name-short : (place : ℕ) → r ≡ Skipped.Short place → declined (refusal 1 (pos place ∷ [])) ≡ answer (name_at names k s)
-    unfolding name_at
-    name-short place seen = ap answer (if-lt _ _ _ _ _ _ few (skip-stops _ _ _ r place skips seen))
-
-    pub name-read : (at : ℕ) (q : ReadString) (v : Answer Part) → r ≡ Skipped.To at → string_read q ≡ string s at → v ≡ answer (string_read q) → v ≡ answer (name_at names k s)
-    unfolding name_at
-    name-read at q v seen read says = says ∙ ap answer (if-lt _ _ _ _ _ _ few (skip-goes _ _ _ r at _ skips seen read))
 
 -- A part that is whole.
 abbrev Inside : List ℕ → Part → Type 0

@@ -5,4 +5,4 @@ pub mod ModelLists
 pub mod States
 pub mod Texts
 pub mod Parts
-pub mod Answers
+pub mod Entries

@@ -1,14 +1,14 @@
 -- The lists of a model record: "C bools, P pairs of i32", by number. Definitions only.
-use Rattle.std.specs.Prelude.{ℕ, Bool, List as ListOf}
+use Rattle.std.specs.Prelude.{ℕ, Bool, List as ListOf, slice_index}
 use Rattle.std.specs.Int.{w32}
 use Rattle.std.proofs.Common.{to_z}
-use Rattle.layout.specs.Walk.{Reader, ◌>>=◌, give, after, Answer, bool, u32}
+use Rattle.layout.specs.Walk.{Reader, after, Answer, bool}
+use Rattle.binary.specs.Groups.{u32s}
 use Rattle.layout.specs.Records.{constraint_state, pair}
 use Rattle.records.specs.Keyframes.{model_bits}
 use Rattle.section.specs.Limits.{Limits}
 use Rattle.lists.specs.Lists.{listed, entry_at, nth}
 use Rattle.lists.specs.Keyframes.{model_list}
-use Rattle.lists.specs.declared.model_lists.PairBits.{PairBits}
 use Rattle.lists.specs.declared.model_lists.PmmDocumentOutsideParentIndexSummary.{PmmDocumentOutsideParentIndexSummary}
 
 -- Bool k of the model record at an offset.
@@ -17,20 +17,14 @@ flag_bits include_index constraints parents k s at =
     after (model_bits include_index constraints parents s at)
     (λ b end. after (entry_at (listed constraints b.constraint_states_offset constraint_state) k s) (λ u p. bool s p))
 
-abbrev pub two_bits : Reader PairBits
-two_bits = do
-  a ← u32
-  b ← u32
-  give (record { 0 = a; 1 = b })
-
 -- Pair k of the model record at an offset.
-unfoldable pub pair_bits : Bool → ℕ → ℕ → ℕ → Reader PairBits
+unfoldable pub pair_bits : Bool → ℕ → ℕ → ℕ → Reader (ListOf ℕ)
 pair_bits include_index constraints parents k s at =
     after (model_bits include_index constraints parents s at)
-    (λ b end. after (entry_at (listed parents b.outside_parent_indices_offset pair) k s) (λ u p. two_bits s p))
+    (λ b end. after (entry_at (listed parents b.outside_parent_indices_offset pair) k s) (λ u p. u32s 2 s p))
 
-unfoldable pub pair_of : PairBits → PmmDocumentOutsideParentIndexSummary
-pair_of b = record { parent_model_index = to_z w32 b.0; parent_model_bone_index = to_z w32 b.1 }
+unfoldable pub pair_of : ListOf ℕ → PmmDocumentOutsideParentIndexSummary
+pair_of b = record { parent_model_index = to_z w32 (slice_index b 0); parent_model_bone_index = to_z w32 (slice_index b 1) }
 
 abbrev pub model_keyframe_constraint_state : Limits → Bool → ℕ → ℕ → ListOf ℕ → ℕ → Answer Bool
 model_keyframe_constraint_state limits include_index n k =

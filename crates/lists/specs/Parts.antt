@@ -1,7 +1,8 @@
 -- Document 01, module 7: "handed back as the part of the section that holds it; a refused call of this kind hands back an empty
 -- part". Definitions only.
 use Rattle.std.specs.Prelude.{List, [], ℕ, take, drop}
-use Rattle.layout.specs.Walk.{Answer, answered, declined, Part, bytes_of}
+use Rattle.layout.specs.Walk.{Answer, answered, declined, bytes_of}
+use Rattle.layout.specs.declared.Part.{Part}
 use Rattle.records.specs.declared.base.Span.{Span}
 
 abbrev pub part_or : Answer Part → List ℕ → List ℕ

@@ -3,7 +3,7 @@ use Rattle.std.specs.Prelude.{ℕ, Bool, List as ListOf, Float}
 use Rattle.std.specs.Float.Ieee.{of_bits}
 use Rattle.std.specs.Float.{binary32}
 use Rattle.layout.specs.Walk.{Answer, u32, bool}
-use Rattle.binary.specs.Groups.{u32x4}
+use Rattle.binary.specs.Groups.{u32s}
 use Rattle.records.specs.States.{bone_state as bone_state_bits, bone_state_of, parent_state_of}
 use Rattle.records.specs.declared.states.PmmDocumentBoneStateSummary.{PmmDocumentBoneStateSummary}
 use Rattle.records.specs.declared.states.PmmDocumentOutsideParentStateSummary.{PmmDocumentOutsideParentStateSummary}
@@ -21,4 +21,4 @@ abbrev pub constraint_state : Limits → ℕ → ListOf ℕ → ℕ → Answer B
 constraint_state limits k = nth limits List.ConstraintStates k (λ m. bool) (λ m at b end. b)
 
 abbrev pub outside_parent_state : Limits → ℕ → ListOf ℕ → ℕ → Answer PmmDocumentOutsideParentStateSummary
-outside_parent_state limits k = nth limits List.OutsideParentStates k (λ m. u32x4) (λ m at b end. parent_state_of b)
+outside_parent_state limits k = nth limits List.OutsideParentStates k (λ m. u32s 4) (λ m at b end. parent_state_of b)

@@ -1,7 +1,8 @@
 -- Document 01, "Model section" and module 7: where the name, English name, path and the names of bones and morphs stand, each as
 -- "the part of the section that holds it". Definitions only.
 use Rattle.std.specs.Prelude.{ℕ, cond, List as ListOf, [], ltb}
-use Rattle.layout.specs.Walk.{Walk, refused, refusal, after, Answer, answer, times, Part, string, fixed_string}
+use Rattle.layout.specs.Walk.{Walk, refused, refusal, after, Answer, answer, times, string, fixed_string}
+use Rattle.layout.specs.declared.Part.{Part}
 use Rattle.section.specs.Limits.{Limits}
 use Rattle.section.specs.Model.{model_section}
 use Rattle.section.specs.declared.model.Model.{Model}

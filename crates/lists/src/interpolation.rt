@@ -1,14 +1,14 @@
-// A bone record's interpolation, as an array beside its summary: an enum holds no array.
+// A bone record's interpolation, as an array beside its summary.
 ghost use Rattle.std.specs.Prelude.{◌≡◌};
 ghost use Rattle.section.specs.Limits.{edition1};
 ghost use Rattle.lists.specs.Interpolation.{curves_or};
 ghost use Rattle.lists.specs.Keyframes.{bone_keyframe};
 
-use crate::keyframes;
-use crate::keyframes::BoneKeyframe;
+use crate::keyframe::Keyframe;
+use records::bone::PmmDocumentBoneKeyframeSummary;
 use records::curves;
 
-// The four curves as they stand; all 0 where `bone_keyframe` with the same inputs refuses.
+// The four curves as they stand; all 0 where the record's own call with the same inputs refuses.
 pub fn bone_interpolation(
     section: &[u8],
     start: usize,
@@ -17,8 +17,8 @@ pub fn bone_interpolation(
 ) -> [[u8; 4]; 4]
     ensures { result ≡ curves_or (bone_keyframe edition1 include_index number section.now start) section.now }
 {
-    match keyframes::bone_keyframe(section, start, include_index, number) {
-        BoneKeyframe::Refused(_) => curves::no_curves(),
-        BoneKeyframe::Read(b) => curves::curves_at(section, b.span.payload_offset),
+    match PmmDocumentBoneKeyframeSummary::read(section, start, include_index, number) {
+        Ok(b) => curves::curves_at(section, b.span.payload_offset),
+        Err(_) => curves::no_curves(),
     }
 }

@@ -1,134 +1,117 @@
 // Bone, morph and model records: initial ones, or additional ones, which include an index.
 ghost use Rattle.std.specs.Prelude.{◌≡◌};
+ghost use Rattle.binary.specs.Answers.{read};
 ghost use Rattle.section.specs.Limits.{edition1};
 ghost use Rattle.lists.specs.Lists.{locate};
-ghost use Rattle.lists.specs.Keyframes.{bone_list, morph_list, model_list, bone_keyframe, morph_keyframe, model_keyframe};
-ghost use Rattle.lists.specs.Answers.{located_read, bone_keyframe_read, morph_keyframe_read, model_keyframe_read};
+ghost use Rattle.lists.specs.Keyframes.{model_list, bone_keyframe, morph_keyframe, model_keyframe};
 
+use crate::keyframe::Keyframe;
 use crate::lists;
-use crate::lists::{List, Located};
-use binary::counts::Refusal;
-use records::bone::{PmmDocumentBoneKeyframeSummary, ReadBone};
-use records::model::{PmmDocumentModelKeyframeSummary, ReadModelRecord};
-use records::morph::{PmmDocumentMorphKeyframeSummary, ReadMorph};
+use crate::lists::List;
+use binary::refusal::{Read, Refusal};
+use records::base::Span;
+use records::bone::PmmDocumentBoneKeyframeSummary;
+use records::model::PmmDocumentModelKeyframeSummary;
+use records::morph::PmmDocumentMorphKeyframeSummary;
 use records::{bone, model, morph};
+use section::model::Model;
 
-#[derive(Clone, Copy)]
-pub enum BoneKeyframe {
-    Read(PmmDocumentBoneKeyframeSummary),
-    Refused(Refusal),
-}
+impl Keyframe for PmmDocumentBoneKeyframeSummary {
+    ghost answer_of = { bone_keyframe };
 
-#[derive(Clone, Copy)]
-pub enum MorphKeyframe {
-    Read(PmmDocumentMorphKeyframeSummary),
-    Refused(Refusal),
-}
+    ghost span_of = { λ b. b.span };
 
-#[derive(Clone, Copy)]
-pub enum ModelKeyframe {
-    Read(PmmDocumentModelKeyframeSummary),
-    Refused(Refusal),
-}
+    #[tactic(auto, unfolding(layout::specs::Walk::entry_of))]
+    fn read(
+        section: &[u8],
+        start: usize,
+        include_index: bool,
+        number: usize,
+    ) -> Result<PmmDocumentBoneKeyframeSummary, Refusal> {
+        let list = if include_index {
+            List::Bones
+        } else {
+            List::InitialBones
+        };
+        let (_, at) = lists::locate(section, start, list, number)?;
+        let (bits, end) = bone::read_bone(section, at, include_index)?;
+        Ok(bits.summary(include_index, at, end))
+    }
 
-pub(crate) fn locate_bone(s: &[u8], start: usize, include_index: bool, number: usize) -> Located
-    ensures { located_read result ≡ locate edition1 (bone_list include_index) number s.now start }
-{
-    if include_index {
-        lists::locate(s, start, List::Bones, number)
-    } else {
-        lists::locate(s, start, List::InitialBones, number)
+    fn span(self) -> Span {
+        self.span
     }
 }
 
-fn locate_morph(s: &[u8], start: usize, include_index: bool, number: usize) -> Located
-    ensures { located_read result ≡ locate edition1 (morph_list include_index) number s.now start }
-{
-    if include_index {
-        lists::locate(s, start, List::Morphs, number)
-    } else {
-        lists::locate(s, start, List::InitialMorphs, number)
+impl Keyframe for PmmDocumentMorphKeyframeSummary {
+    ghost answer_of = { morph_keyframe };
+
+    ghost span_of = { λ m. m.span };
+
+    #[tactic(auto, unfolding(layout::specs::Walk::entry_of))]
+    fn read(
+        section: &[u8],
+        start: usize,
+        include_index: bool,
+        number: usize,
+    ) -> Result<PmmDocumentMorphKeyframeSummary, Refusal> {
+        let list = if include_index {
+            List::Morphs
+        } else {
+            List::InitialMorphs
+        };
+        let (_, at) = lists::locate(section, start, list, number)?;
+        let (bits, end) = morph::read_morph(section, at, include_index)?;
+        Ok(bits.summary(include_index, at, end))
+    }
+
+    fn span(self) -> Span {
+        self.span
     }
 }
 
-pub(crate) fn locate_model(s: &[u8], start: usize, include_index: bool, number: usize) -> Located
-    ensures { located_read result ≡ locate edition1 (model_list include_index) number s.now start }
-{
-    if include_index {
-        lists::locate(s, start, List::Models, number)
-    } else {
-        lists::locate(s, start, List::InitialModels, number)
-    }
-}
-
-pub fn bone_keyframe(
-    section: &[u8],
+pub(crate) fn locate_model(
+    s: &[u8],
     start: usize,
     include_index: bool,
     number: usize,
-) -> BoneKeyframe
-    ensures { bone_keyframe_read result ≡ bone_keyframe edition1 include_index number section.now start }
+) -> Read<Model>
+    ensures { read result ≡ locate edition1 (model_list include_index) number s.now start }
 {
-    match locate_bone(section, start, include_index, number) {
-        Located::Refused(why) => BoneKeyframe::Refused(why),
-        Located::At(_, at) => match bone::read_bone(section, at, include_index) {
-            ReadBone::Short(place) => BoneKeyframe::Refused(Refusal::TooShort(place)),
-            ReadBone::Read(b, end) => BoneKeyframe::Read(bone::bone_summary(
-                b,
-                include_index,
-                at,
-                end,
-            )),
-        },
-    }
+    let list = if include_index {
+        List::Models
+    } else {
+        List::InitialModels
+    };
+    lists::locate(s, start, list, number)
 }
 
-pub fn morph_keyframe(
-    section: &[u8],
-    start: usize,
-    include_index: bool,
-    number: usize,
-) -> MorphKeyframe
-    ensures { morph_keyframe_read result ≡ morph_keyframe edition1 include_index number section.now start }
-{
-    match locate_morph(section, start, include_index, number) {
-        Located::Refused(why) => MorphKeyframe::Refused(why),
-        Located::At(_, at) => match morph::read_morph(section, at, include_index) {
-            ReadMorph::Short(place) => MorphKeyframe::Refused(Refusal::TooShort(place)),
-            ReadMorph::Read(b, end) => MorphKeyframe::Read(morph::morph_summary(
-                b,
-                include_index,
-                at,
-                end,
-            )),
-        },
-    }
-}
+impl Keyframe for PmmDocumentModelKeyframeSummary {
+    ghost answer_of = { model_keyframe };
 
-pub fn model_keyframe(
-    section: &[u8],
-    start: usize,
-    include_index: bool,
-    number: usize,
-) -> ModelKeyframe
-    ensures { model_keyframe_read result ≡ model_keyframe edition1 include_index number section.now start }
-{
-    match locate_model(section, start, include_index, number) {
-        Located::Refused(why) => ModelKeyframe::Refused(why),
-        Located::At(m, at) => {
-            let constraints = m.front.counts.constraints;
-            let parents = m.front.counts.parents;
-            match model::read_model_record(section, at, include_index, constraints, parents) {
-                ReadModelRecord::Short(place) => ModelKeyframe::Refused(Refusal::TooShort(place)),
-                ReadModelRecord::Read(b, end) => ModelKeyframe::Read(model::model_summary(
-                    b,
-                    include_index,
-                    constraints,
-                    parents,
-                    at,
-                    end,
-                )),
-            }
-        }
+    ghost span_of = { λ m. m.span };
+
+    #[tactic(auto, unfolding(layout::specs::Walk::entry_of))]
+    fn read(
+        section: &[u8],
+        start: usize,
+        include_index: bool,
+        number: usize,
+    ) -> Result<PmmDocumentModelKeyframeSummary, Refusal> {
+        let (m, at) = locate_model(section, start, include_index, number)?;
+        let constraints = m.front.counts.constraints;
+        let parents = m.front.counts.parents;
+        let (bits, end) = model::read_model_record(
+            section,
+            at,
+            include_index,
+            constraints,
+            parents,
+        )?;
+        Ok(bits.summary(include_index, constraints, parents, at, end))
+    }
+
+    fn span(self) -> Span {
+        self.span
     }
 }

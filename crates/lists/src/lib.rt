@@ -4,6 +4,7 @@
 #![tactic(auto)]
 
 pub mod interpolation;
+pub mod keyframe;
 pub mod keyframes;
 pub mod lists;
 pub mod model_lists;

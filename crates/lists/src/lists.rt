@@ -1,16 +1,16 @@
 // Where an entry of a list stands.
-ghost use Rattle.std.specs.Prelude.{◌≡◌, ◌<◌};
+ghost use Rattle.std.specs.Prelude.{◌≡◌};
+ghost use Rattle.binary.specs.Answers.{read, skipped};
 ghost use Rattle.section.specs.Limits.{edition1};
 ghost use Rattle.lists.specs.Lists.{entries_of, entry_at, locate as locate_of};
-ghost use Rattle.lists.specs.Answers.{entries_said, entry_read, located_read};
+ghost use Rattle.lists.specs.Entries.{listing};
 
 use binary::blocks;
 use binary::blocks::Items;
-use binary::counts::Refusal;
-use binary::numbers::Skipped;
+use binary::refusal::{Read, Refusal};
 use records::items;
 use section::model;
-use section::model::{Model, ReadModel};
+use section::model::Model;
 
 // The lists whose entries have fixed items.
 #[derive(Clone, Copy)]
@@ -35,23 +35,9 @@ pub struct Entries {
     pub items: Items,
 }
 
-// The section, and the offset of the entry.
-#[derive(Clone, Copy)]
-pub enum Located {
-    At(Model, usize),
-    Refused(Refusal),
-}
-
-// The offset of an entry.
-#[derive(Clone, Copy)]
-pub enum ReadEntry {
-    At(usize),
-    Refused(Refusal),
-}
-
+#[tactic(auto, unfolding(crate::specs::Lists::entries_of))]
 fn entries_of(list: List, m: Model) -> Entries
-    requires { m.front.counts.parents < 2147483648 }
-    ensures { entries_said result ≡ entries_of list m }
+    ensures { listing result ≡ entries_of list m }
 {
     let counts = m.front.counts;
     let bones = m.keyframes.bones;
@@ -113,27 +99,23 @@ fn entries_of(list: List, m: Model) -> Entries
 }
 
 // Entry `number` of the list: that many others stand before it.
-pub fn entry(s: &[u8], entries: Entries, number: usize) -> ReadEntry
-    ensures { entry_read result ≡ entry_at (entries_said entries) number s.now }
+#[tactic(auto, unfolding(crate::specs::Lists::entry_at))]
+pub fn entry(s: &[u8], entries: &Entries, number: usize) -> Result<usize, Refusal>
+    ensures { skipped result ≡ entry_at (listing entries.now) number s.now }
 {
     let count = entries.count as usize;
     if count <= number {
-        return ReadEntry::Refused(Refusal::Absent);
+        return Err(Refusal::Absent);
     }
-    match blocks::skip_records(s, entries.offset, number as u32, entries.items) {
-        Skipped::Short(place) => ReadEntry::Refused(Refusal::TooShort(place)),
-        Skipped::To(at) => ReadEntry::At(at),
-    }
+    blocks::skip_records(s, entries.offset, number as u32, &entries.items)
 }
 
-pub fn locate(s: &[u8], start: usize, list: List, number: usize) -> Located
-    ensures { located_read result ≡ locate_of edition1 list number s.now start }
+// The section, and the offset of the entry.
+#[tactic(auto, unfolding(crate::specs::Lists::locate))]
+pub fn locate(s: &[u8], start: usize, list: List, number: usize) -> Read<Model>
+    ensures { read result ≡ locate_of edition1 list number s.now start }
 {
-    match model::read_model(s, start) {
-        ReadModel::Refused(why) => Located::Refused(why),
-        ReadModel::Read(m, _) => match entry(s, entries_of(list, m), number) {
-            ReadEntry::Refused(why) => Located::Refused(why),
-            ReadEntry::At(at) => Located::At(m, at),
-        },
-    }
+    let (m, _) = model::read_model(s, start)?;
+    let at = entry(s, &entries_of(list, m), number)?;
+    Ok((m, at))
 }

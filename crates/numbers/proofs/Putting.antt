@@ -1,12 +1,13 @@
 -- Laws of writing from a place on: one turn, the end, nothing past the slice's end, and one list behind the other. Assumes nothing.
-use Prim.Native.Nat.{ℕ, suc, ◌+◌, ◌-◌, ◌<◌, ◌≤◌}
+use Prim.Native.Nat.{ℕ, suc, ◌+◌, ◌-◌, ◌<◌, ◌≤◌, min}
 use mathlib.Core.List.{List, [], ◌∷◌, ◌++◌, append-nil, append_assoc}
 use mathlib.Core.Path.{◌≡◌, refl, sym, ap, ◌∙◌}
 use native.Mathlib.Nat.{add-zero, add-suc, suc-add}
 use native.Mathlib.Numerals.{add-one}
 use native.Mathlib.Omega.{arith}
-use native.Mathlib.Decide.{dec_lt}
+use native.Mathlib.Decide.{dec_lt, dec_le}
 use lib.ListN.{length, get_or, take, drop, set, length-set, drop_of_length-le, take-append-drop}
+use Rattle.std.proofs.Common.{drop-drop}
 use lib.IntN.{ℤ}
 use lib.Signed.{mag}
 use mir.Syntax.{w32}
@@ -15,31 +16,21 @@ use mir.ValLaws.{to_z-of_z}
 use lib.Seq.{drop-cons, set_out, take_all, take-nil, take-suc-set, drop-set-lt}
 use Rattle.numbers.specs.Put.{put}
 
-pub put-none : (at : ℕ) (slice : List ℕ) → put at [] slice ≡ slice
+pub put-none : {A : Type 0} (at : ℕ) (slice : List A) → put at [] slice ≡ slice
 unfolding put
 put-none at slice = refl
 
-pub put-past : (at : ℕ) (xs slice : List ℕ) → length slice ≤ at → put at xs slice ≡ slice
+pub put-past : {A : Type 0} (at : ℕ) (xs slice : List A) → length slice ≤ at → put at xs slice ≡ slice
 unfolding put
 put-past at [] slice past = refl
 put-past at (x ∷ xs) slice past =
     let same = set_out slice at x past in
     ap (put (suc at) xs) same ∙ put-past (suc at) xs slice (omega (arith, past))
 
-pub length-put : (at : ℕ) (xs slice : List ℕ) → length (put at xs slice) ≡ length slice
+pub length-put : {A : Type 0} (at : ℕ) (xs slice : List A) → length (put at xs slice) ≡ length slice
 unfolding put
 length-put at [] slice = refl
 length-put at (x ∷ xs) slice = length-put (suc at) xs (set slice at x) ∙ length-set slice at x
-
--- A turn of the loop: number i goes to its place.
-pub put-turn : (to i : ℕ) (xs slice : List ℕ) → i < length xs → put to (drop i xs) slice ≡ put (to + 1) (drop (i + 1) xs) (set slice to (get_or xs i 0))
-unfolding put
-put-turn to i xs slice within =
-    rw (add-one to, add-one i) (ap (λ (ys : List ℕ). put to ys slice) (drop-cons xs i 0 within))
-
--- The loop's end: every number has its place, or there is no place left.
-pub put-done : (to i : ℕ) (xs slice : List ℕ) → length xs ≤ i → put to (drop i xs) slice ≡ slice
-put-done to i xs slice past = ap (λ (ys : List ℕ). put to ys slice) (drop_of_length-le xs past) ∙ put-none to slice
 
 -- Writing xs and then ys behind them is writing xs ++ ys.
 pub put-append : (at : ℕ) (xs ys slice : List ℕ) → put at (xs ++ ys) slice ≡ put (at + length xs) ys (put at xs slice)
@@ -65,25 +56,41 @@ pub signed_is : (r : ℕ) (z : ℤ) → mag z < 2147483648 → r ≡ of_z w32 (t
 signed_is r z fits e = e ∙ ap (of_z w32) (to_z-of_z w32 z (record { sfits = fits }))
 
 -- One number more, where the slice reaches its place and where it does not.
-within-room : (at : ℕ) (x : ℕ) (xs slice : List ℕ) → at < length slice → take (suc at) (set slice at x) ++ take (length (set slice at x) - suc at) xs ++ drop (suc at + length xs) (set slice at x) ≡ take at slice ++ take (length slice - at) (x ∷ xs) ++ drop (at + suc (length xs)) slice
-within-room at x xs slice within =
+within-room : {A : Type 0} (at : ℕ) (x : A) (xs slice : List A) → at < length slice → take (suc at) (set slice at x) ++ take (length (set slice at x) - suc at) xs ++ drop (suc at + length xs) (set slice at x) ≡ take at slice ++ take (length slice - at) (x ∷ xs) ++ drop (at + suc (length xs)) slice
+within-room {A} at x xs slice within =
     let places : length slice - at ≡ suc (length slice - suc at) = omega (arith, within) in
     let behind-them : suc at + length xs ≡ at + suc (length xs) = omega arith in
     rw (length-set slice at x, take-suc-set slice at x within, drop-set-lt (suc at + length xs) slice at x (omega arith), places, behind-them)
-    (ap (λ (zs : List ℕ). zs ++ drop (at + suc (length xs)) slice) (append_assoc (take at slice) (x ∷ []) (take (length slice - suc at) xs)))
+    (ap (λ (zs : List A). zs ++ drop (at + suc (length xs)) slice) (append_assoc (take at slice) (x ∷ []) (take (length slice - suc at) xs)))
 
-without-room : (at : ℕ) (xs slice : List ℕ) (behind-them : ℕ) → length slice ≤ at → at ≤ behind-them → slice ≡ take at slice ++ take (length slice - at) xs ++ drop behind-them slice
+without-room : {A : Type 0} (at : ℕ) (xs slice : List A) (behind-them : ℕ) → length slice ≤ at → at ≤ behind-them → slice ≡ take at slice ++ take (length slice - at) xs ++ drop behind-them slice
 without-room at xs slice behind-them past further =
     let places : length slice - at ≡ 0 = omega (arith, past) in
     rw (take_all at slice past, places, drop_of_length-le slice {i = behind-them} (omega (arith, past, further)))
     (sym (append-nil (slice ++ []) ∙ append-nil slice))
 
 -- `put` at a glance: what stands before the place, the numbers as far as the slice reaches, what stands behind them.
-pub put_is : (at : ℕ) (xs slice : List ℕ) → put at xs slice ≡ take at slice ++ take (length slice - at) xs ++ drop (at + length xs) slice
+pub put_is : {A : Type 0} (at : ℕ) (xs slice : List A) → put at xs slice ≡ take at slice ++ take (length slice - at) xs ++ drop (at + length xs) slice
 unfolding put
-put_is at [] slice = rw (take-nil {A = ℕ} (length slice - at), append-nil (take at slice), add-zero at) (sym (take-append-drop at slice))
+put_is {A} at [] slice = rw (take-nil {A = A} (length slice - at), append-nil (take at slice), add-zero at) (sym (take-append-drop at slice))
 put_is at (x ∷ xs) slice =
     elim (dec_lt at (length slice)) [
       | yes within ↦ put_is (suc at) xs (set slice at x) ∙ within-room at x xs slice within
       | no past ↦ put-past at (x ∷ xs) slice (omega (arith, past)) ∙ without-room at (x ∷ xs) slice (at + suc (length xs)) (omega (arith, past)) (omega arith)
+    ]
+
+-- As many as fit are copied.
+pub put-copied : {A : Type 0} (at fit : ℕ) (xs slice : List A) → at < length slice → fit ≡ min (length xs) (length slice - at) → take at slice ++ (take fit xs ++ drop (at + fit - at) (drop at slice)) ≡ put at xs slice
+put-copied {A} at fit xs slice within e =
+    let many : at + fit - at ≡ fit = omega arith in
+    elim (dec_le (length xs) (length slice - at)) [
+      | yes all ↦
+          let whole : fit ≡ length xs = omega arith in
+          rw (many, whole, take_all (length xs) xs (omega arith), drop-drop (length xs) at slice)
+          (sym (append_assoc (take at slice) xs (drop (at + length xs) slice)) ∙ sym (put_is at xs slice ∙ rw (take_all (length slice - at) xs all)))
+      | no some ↦
+          let room : fit ≡ length slice - at = omega arith in
+          let end : at + (length slice - at) ≡ length slice = omega arith in
+          rw (many, room, drop-drop (length slice - at) at slice, end, drop_of_length-le slice {i = length slice} (omega arith))
+          (sym (append_assoc (take at slice) (take (length slice - at) xs) []) ∙ sym (put_is at xs slice ∙ rw (drop_of_length-le slice {i = at + length xs} (omega (arith, some)))))
     ]

@@ -5,7 +5,7 @@ use mathlib.Core.List.{List}
 use mathlib.Core.Path.{◌≡◌, refl, sym, ap, ◌∙◌, subst}
 use Rattle.layout.specs.Walk.{Refusal, Answer, answered, declined}
 use Rattle.binary.specs.Answers.{because}
-use Rattle.binary.specs.declared.counts.Refusal.{Refusal as Refused}
+use Rattle.binary.specs.declared.refusal.Refusal.{Refusal as Refused}
 use Rattle.numbers.specs.Put.{put}
 use Rattle.numbers.specs.Answers.{values, Refuses, Says, Hands}
 

@@ -5,4 +5,5 @@ pub mod Keyframes
 pub mod States
 pub mod Summary
 pub mod Tracks
+pub mod Spans
 pub mod Answers

@@ -1,10 +1,9 @@
 -- The number that stands for a value. Definitions only.
-use Rattle.std.specs.Prelude.{ℕ, Bool, cond, ℤ, Float}
+use Rattle.std.specs.Prelude.{ℕ, Bool, cond, ℤ, Float, Option, Some, None}
 use Rattle.std.specs.Float.Ieee.{to_bits}
 use Rattle.std.specs.Float.{binary32}
 use Rattle.std.specs.Int.{w32}
 use Rattle.std.proofs.Common.{of_z}
-use Rattle.records.specs.declared.base.KeyframeIndex.{KeyframeIndex}
 
 -- An i32 as its 32-bit pattern.
 abbrev pub signed : ℤ → ℕ
@@ -18,6 +17,6 @@ abbrev pub float : Float → ℕ
 float x = to_bits binary32 x
 
 -- An absent index as 2 ^ 64 - 1.
-abbrev pub index : KeyframeIndex → ℕ
-index KeyframeIndex.Absent = 18446744073709551615
-index (KeyframeIndex.At i) = signed i
+abbrev pub index : Option ℤ → ℕ
+index None = 18446744073709551615
+index (Some i) = signed i

@@ -1,8 +1,7 @@
 -- The numbers of a model section's summary: 27, then the 16 offsets. Definitions only.
-use Rattle.std.specs.Prelude.{ℕ, List, [], ◌∷◌, ◌++◌}
+use Rattle.std.specs.Prelude.{ℕ, ℤ, List, [], ◌∷◌, ◌++◌, get_or, pos}
 use Rattle.numbers.specs.Scalars.{signed, flag, float}
 use Rattle.section.specs.declared.summary.PmmDocumentModelSections.{PmmDocumentModelSections}
-use Rattle.section.specs.declared.summary.SelectedMorphIndices.{SelectedMorphIndices}
 use Rattle.section.specs.declared.summary.PmmDocumentModelSummary.{PmmDocumentModelSummary}
 
 unfoldable pub places : PmmDocumentModelSummary → List ℕ
@@ -13,8 +12,9 @@ places s =
 unfoldable pub view : PmmDocumentModelSummary → List ℕ
 view s = s.draw_order_index ∷ s.transform_order_index ∷ signed s.selected_bone_index ∷ []
 
-unfoldable pub selected : SelectedMorphIndices → List ℕ
-selected s = signed s.0 ∷ signed s.1 ∷ signed s.2 ∷ signed s.3 ∷ []
+-- Four indices.
+unfoldable pub selected : List ℤ → List ℕ
+selected s = signed (get_or s 0 (pos 0)) ∷ signed (get_or s 1 (pos 0)) ∷ signed (get_or s 2 (pos 0)) ∷ signed (get_or s 3 (pos 0)) ∷ []
 
 unfoldable pub counts : PmmDocumentModelSummary → List ℕ
 counts s =

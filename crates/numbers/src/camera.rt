@@ -3,31 +3,34 @@ ghost use Rattle.std.specs.Prelude.{◌≡◌};
 ghost use Rattle.numbers.specs.Put.{put};
 ghost use Rattle.numbers.specs.Tracks.{camera_view, camera_fields, camera_offsets, camera_rest, camera};
 
-use crate::{groups, put, scalars, states};
+use crate::answers::Numbers;
+use crate::{groups, put, scalars};
 use tracks::camera::{CameraKeyframeSummary, CameraOffsets};
 
 fn put_view(values: &mut [u64], c: CameraKeyframeSummary)
     ensures { values.new ≡ put 0 (camera_view c) values.old }
 {
     groups::put_base(values, 0, c.base);
-    states::put_float(values, 4, c.distance);
+    put::put(values, 4, &[scalars::float(c.distance)]);
     groups::put_vector(values, 5, c.look_at);
     groups::put_vector(values, 8, c.angle);
 }
 
+#[tactic(auto, unfolding(crate::specs::Tracks::camera_fields))]
 fn put_fields(values: &mut [u64], at: usize, c: CameraKeyframeSummary)
     ensures { values.new ≡ put at (camera_fields c) values.old }
 {
     let numbers = [
         scalars::signed(c.parent_model_index),
         scalars::signed(c.parent_model_bone_index),
-        scalars::flag(c.perspective_view),
+        u64::from(c.perspective_view),
         scalars::signed(c.fov),
-        scalars::flag(c.selected),
+        u64::from(c.selected),
     ];
-    put::put_numbers(values, at, &numbers);
+    put::put(values, at, &numbers);
 }
 
+#[tactic(auto, unfolding(crate::specs::Tracks::camera_offsets))]
 fn put_offsets(values: &mut [u64], at: usize, o: CameraOffsets)
     ensures { values.new ≡ put at (camera_offsets o) values.old }
 {
@@ -45,7 +48,7 @@ fn put_offsets(values: &mut [u64], at: usize, o: CameraOffsets)
         o.fov_offset as u64,
         o.selected_offset as u64,
     ];
-    put::put_numbers(values, at, &numbers);
+    put::put(values, at, &numbers);
 }
 
 fn put_rest(values: &mut [u64], c: CameraKeyframeSummary)
@@ -56,9 +59,11 @@ fn put_rest(values: &mut [u64], c: CameraKeyframeSummary)
     groups::put_span(values, 28, c.span);
 }
 
-pub fn put_camera(values: &mut [u64], c: CameraKeyframeSummary)
-    ensures { values.new ≡ put 0 (camera c) values.old }
-{
-    put_view(values, c);
-    put_rest(values, c);
+impl Numbers for CameraKeyframeSummary {
+    ghost numbers = { camera };
+
+    fn put(self, values: &mut [u64]) {
+        put_view(values, self);
+        put_rest(values, self);
+    }
 }

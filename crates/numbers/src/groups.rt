@@ -6,8 +6,8 @@ ghost use Rattle.numbers.specs.Groups.{base, pose, vector, span};
 use crate::{put, scalars};
 use records::base::{PmmDocumentBaseKeyframeSummary, Span};
 use records::pose::Pose;
-use tracks::vector::Vector;
 
+#[tactic(auto, unfolding(crate::specs::Groups::base))]
 pub fn put_base(values: &mut [u64], at: usize, b: PmmDocumentBaseKeyframeSummary)
     ensures { values.new ≡ put at (base b) values.old }
 {
@@ -18,9 +18,10 @@ pub fn put_base(values: &mut [u64], at: usize, b: PmmDocumentBaseKeyframeSummary
         scalars::signed(b.previous_keyframe_index),
         scalars::signed(b.next_keyframe_index),
     ];
-    put::put_numbers(values, at, &numbers);
+    put::put(values, at, &numbers);
 }
 
+#[tactic(auto, unfolding(crate::specs::Groups::pose))]
 pub fn put_pose(values: &mut [u64], at: usize, p: Pose)
     ensures { values.new ≡ put at (pose p) values.old }
 {
@@ -33,20 +34,19 @@ pub fn put_pose(values: &mut [u64], at: usize, p: Pose)
         scalars::float(p.orientation_z),
         scalars::float(p.orientation_w),
     ];
-    put::put_numbers(values, at, &numbers);
+    put::put(values, at, &numbers);
 }
 
-pub fn put_vector(values: &mut [u64], at: usize, v: Vector)
+#[tactic(auto, unfolding(crate::specs::Groups::vector))]
+pub fn put_vector(values: &mut [u64], at: usize, v: [f32; 3])
     ensures { values.new ≡ put at (vector v) values.old }
 {
-    let numbers = [
-        scalars::float(v.x),
-        scalars::float(v.y),
-        scalars::float(v.z),
-    ];
-    put::put_numbers(values, at, &numbers);
+    let [x, y, z] = v;
+    let numbers = [scalars::float(x), scalars::float(y), scalars::float(z)];
+    put::put(values, at, &numbers);
 }
 
+#[tactic(auto, unfolding(crate::specs::Groups::span))]
 pub fn put_span(values: &mut [u64], at: usize, s: Span)
     ensures { values.new ≡ put at (span s) values.old }
 {
@@ -56,5 +56,5 @@ pub fn put_span(values: &mut [u64], at: usize, s: Span)
         s.payload_offset as u64,
         s.payload_byte_length as u64,
     ];
-    put::put_numbers(values, at, &numbers);
+    put::put(values, at, &numbers);
 }

@@ -5,13 +5,13 @@ ghost use Rattle.numbers.specs.Put.{put};
 ghost use Rattle.numbers.specs.Answers.{Refuses};
 
 use crate::put;
-use binary::counts::Refusal;
+use binary::refusal::Refusal;
 
 fn put_place(values: &mut [u64], place: usize)
     ensures { values.new ≡ put 0 (place ∷ []) values.old }
 {
     let numbers = [place as u64];
-    put::put_numbers(values, 0, &numbers);
+    put::put(values, 0, &numbers);
 }
 
 pub fn refused(values: &mut [u64], why: Refusal) -> u32

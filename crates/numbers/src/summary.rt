@@ -14,9 +14,11 @@ ghost use Rattle.numbers.specs.Summary.{
   model_summary,
 };
 
+use crate::answers::Numbers;
 use crate::{put, scalars};
-use section::summary::{PmmDocumentModelSections, PmmDocumentModelSummary, SelectedMorphIndices};
+use section::summary::{PmmDocumentModelSections, PmmDocumentModelSummary};
 
+#[tactic(auto, unfolding(crate::specs::Summary::places))]
 fn put_places(values: &mut [u64], at: usize, s: PmmDocumentModelSummary)
     ensures { values.new ≡ put at (places s) values.old }
 {
@@ -30,9 +32,10 @@ fn put_places(values: &mut [u64], at: usize, s: PmmDocumentModelSummary)
         s.constraint_bone_count as u64,
         s.outside_parent_subject_bone_count as u64,
     ];
-    put::put_numbers(values, at, &numbers);
+    put::put(values, at, &numbers);
 }
 
+#[tactic(auto, unfolding(crate::specs::Summary::view))]
 fn put_view(values: &mut [u64], at: usize, s: PmmDocumentModelSummary)
     ensures { values.new ≡ put at (view s) values.old }
 {
@@ -41,21 +44,18 @@ fn put_view(values: &mut [u64], at: usize, s: PmmDocumentModelSummary)
         s.transform_order_index as u64,
         scalars::signed(s.selected_bone_index),
     ];
-    put::put_numbers(values, at, &numbers);
+    put::put(values, at, &numbers);
 }
 
-fn put_selected(values: &mut [u64], at: usize, s: SelectedMorphIndices)
+#[tactic(auto, unfolding(crate::specs::Summary::selected))]
+fn put_selected(values: &mut [u64], at: usize, s: [i32; 4])
     ensures { values.new ≡ put at (selected s) values.old }
 {
-    let numbers = [
-        scalars::signed(s.0),
-        scalars::signed(s.1),
-        scalars::signed(s.2),
-        scalars::signed(s.3),
-    ];
-    put::put_numbers(values, at, &numbers);
+    let [a, b, c, d] = s.map(scalars::signed);
+    put::put(values, at, &[a, b, c, d]);
 }
 
+#[tactic(auto, unfolding(crate::specs::Summary::counts))]
 fn put_counts(values: &mut [u64], at: usize, s: PmmDocumentModelSummary)
     ensures { values.new ≡ put at (counts s) values.old }
 {
@@ -68,20 +68,21 @@ fn put_counts(values: &mut [u64], at: usize, s: PmmDocumentModelSummary)
         s.initial_model_keyframes as u64,
         s.model_keyframes as u64,
     ];
-    put::put_numbers(values, at, &numbers);
+    put::put(values, at, &numbers);
 }
 
+#[tactic(auto, unfolding(crate::specs::Summary::ending))]
 fn put_ending(values: &mut [u64], at: usize, s: PmmDocumentModelSummary)
     ensures { values.new ≡ put at (ending s) values.old }
 {
     let numbers = [
         scalars::signed(s.last_frame_index),
-        scalars::flag(s.visible),
-        scalars::flag(s.blend_enabled),
+        u64::from(s.visible),
+        u64::from(s.blend_enabled),
         scalars::float(s.edge_width),
-        scalars::flag(s.self_shadow_enabled),
+        u64::from(s.self_shadow_enabled),
     ];
-    put::put_numbers(values, at, &numbers);
+    put::put(values, at, &numbers);
 }
 
 fn put_scalars(values: &mut [u64], s: PmmDocumentModelSummary)
@@ -94,6 +95,7 @@ fn put_scalars(values: &mut [u64], s: PmmDocumentModelSummary)
     put_ending(values, 22, s);
 }
 
+#[tactic(auto, unfolding(crate::specs::Summary::record_offsets))]
 fn put_record_offsets(values: &mut [u64], at: usize, s: PmmDocumentModelSections)
     ensures { values.new ≡ put at (record_offsets s) values.old }
 {
@@ -111,9 +113,10 @@ fn put_record_offsets(values: &mut [u64], at: usize, s: PmmDocumentModelSections
         s.model_keyframes_offset as u64,
         s.model_keyframes_end_offset as u64,
     ];
-    put::put_numbers(values, at, &numbers);
+    put::put(values, at, &numbers);
 }
 
+#[tactic(auto, unfolding(crate::specs::Summary::state_offsets))]
 fn put_state_offsets(values: &mut [u64], at: usize, s: PmmDocumentModelSections)
     ensures { values.new ≡ put at (state_offsets s) values.old }
 {
@@ -123,7 +126,7 @@ fn put_state_offsets(values: &mut [u64], at: usize, s: PmmDocumentModelSections)
         s.constraint_states_offset as u64,
         s.outside_parent_states_offset as u64,
     ];
-    put::put_numbers(values, at, &numbers);
+    put::put(values, at, &numbers);
 }
 
 fn put_offsets(values: &mut [u64], s: PmmDocumentModelSections)
@@ -133,9 +136,11 @@ fn put_offsets(values: &mut [u64], s: PmmDocumentModelSections)
     put_state_offsets(values, 39, s);
 }
 
-pub fn put_summary(values: &mut [u64], s: PmmDocumentModelSummary)
-    ensures { values.new ≡ put 0 (model_summary s) values.old }
-{
-    put_scalars(values, s);
-    put_offsets(values, s.sections);
+impl Numbers for PmmDocumentModelSummary {
+    ghost numbers = { model_summary };
+
+    fn put(self, values: &mut [u64]) {
+        put_scalars(values, self);
+        put_offsets(values, self.sections);
+    }
 }

@@ -4,9 +4,8 @@ use mathlib.Core.Bool.{Bool}
 use mathlib.Core.List.{List}
 use mathlib.Core.Path.{◌≡◌, sym, ap, subst, ◌∙◌}
 use lib.ListN.{length}
-use Rattle.layout.specs.Walk.{fine, block, bool}
+use Rattle.layout.specs.Walk.{fine, block, bool, u32}
 use Rattle.layout.proofs.Inversion.{came, item-fits}
-use Rattle.binary.specs.Groups.{u32x3}
 use Rattle.records.specs.Base.{index_bits, base_bits}
 use Rattle.records.specs.Pose.{pose_bits}
 use Rattle.records.specs.Keyframes.{bone_bits}
@@ -20,8 +19,10 @@ module _ (include_index : Bool) (s : List ℕ) (at : ℕ) where
   unfolding base_bits
   payload-next b next e =
       let i = came (index_bits include_index s at) _ b next e in
-      let t = came (u32x3 s i.at) _ b next i.rest in
-      go i.value t.value.0 t.value.1 t.value.2 t.at t.rest
+      let f = came (u32 s i.at) _ b next i.rest in
+      let p = came (u32 s f.at) _ b next f.rest in
+      let l = came (u32 s p.at) _ b next p.rest in
+      go i.value f.value p.value l.value l.at l.rest
     where
       go : (index frame previous link to : ℕ) → fine (record { index = index; frame = frame; previous = previous; next = link; payload_offset = to }) to ≡ fine b next → b.payload_offset ≡ next
       go index frame previous link to e =

@@ -1,34 +1,34 @@
 -- Each record and state, read field by field, walks the items of document 01's record table: where those are whole it is read, and
 -- it ends where they end. Assumes nothing.
-use Prim.Native.Nat.{ℕ, ◌*◌}
+use Prim.Native.Nat.{ℕ, zero, suc, ◌*◌}
+use Rattle.std.proofs.lemmas.List.{append-nil}
 use mathlib.Core.Bool.{Bool, true, false}
 use mathlib.Core.List.{List, [], ◌∷◌, ◌++◌}
 use lib.ListN.{replicate}
 use Rattle.layout.specs.Walk.{block, bool, u32, times, items, here}
 use Rattle.layout.specs.Records.{base, initial, additional, bone, morph, model, bone_state, constraint_state, pair}
 use Rattle.layout.proofs.Walks.{Walks, walks-give, walks-here, walks-item, walks-then, walks-bool, walks-u32, walks-bools, walks-pairs}
-use Rattle.binary.specs.Groups.{u32x3, u32x4}
+use Rattle.binary.specs.Groups.{u32s}
 use Rattle.records.specs.Base.{index_bits, base_bits}
 use Rattle.records.specs.Pose.{pose_bits}
 use Rattle.records.specs.Keyframes.{bone_bits, morph_bits, model_bits}
 use Rattle.records.specs.States.{bone_state as bone_state_bits}
 
-pub u32x3-walks : Walks u32x3 (replicate 3 4)
-unfolding u32x3
-u32x3-walks =
-    walks-then u32 _ (4 ∷ []) (replicate 2 4) walks-u32
-    (λ a. walks-then u32 _ (4 ∷ []) (replicate 1 4) walks-u32 (λ b. walks-then u32 _ (4 ∷ []) [] walks-u32 (λ c. walks-give _)))
-
-pub u32x4-walks : Walks u32x4 (replicate 4 4)
-unfolding u32x4
-u32x4-walks = walks-then u32x3 _ (replicate 3 4) (4 ∷ []) u32x3-walks (λ b. walks-then u32 _ (4 ∷ []) [] walks-u32 (λ d. walks-give _))
+pub u32s-walks : (n : ℕ) → Walks (u32s n) (replicate n 4)
+unfolding u32s
+u32s-walks zero = walks-give []
+u32s-walks (suc n) =
+    rw (← append-nil {A = ℕ} (replicate n 4)) (walks-then u32 _ (4 ∷ []) (replicate n 4 ++ []) walks-u32
+    (λ a. walks-then (u32s n) _ (replicate n 4) [] (u32s-walks n) (λ others. walks-give _)))
 
 -- A base whose index, if it has one, walks `index`.
 base-walks : (include_index : Bool) (index : List ℕ) → Walks (index_bits include_index) index → Walks (base_bits include_index) (index ++ base)
 unfolding base_bits
 base-walks include_index index index-walks =
     walks-then (index_bits include_index) _ index base index-walks
-    (λ i. walks-then u32x3 _ base [] u32x3-walks (λ b. walks-then here _ [] [] walks-here (λ p. walks-give _)))
+    (λ i. walks-then u32 _ (4 ∷ []) (4 ∷ 4 ∷ []) walks-u32
+    (λ f. walks-then u32 _ (4 ∷ []) (4 ∷ []) walks-u32
+    (λ p. walks-then u32 _ (4 ∷ []) [] walks-u32 (λ l. walks-then here _ [] [] walks-here (λ o. walks-give _)))))
 
 pub initial-base-walks : Walks (base_bits false) base
 initial-base-walks = base-walks false [] (walks-give 0)
@@ -38,7 +38,7 @@ additional-base-walks = base-walks true (4 ∷ []) walks-u32
 
 pub pose-walks : Walks pose_bits (replicate 7 4)
 unfolding pose_bits
-pose-walks = walks-then u32x3 _ (replicate 3 4) (replicate 4 4) u32x3-walks (λ t. walks-then u32x4 _ (replicate 4 4) [] u32x4-walks (λ o. walks-give _))
+pose-walks = walks-then (u32s 3) _ (replicate 3 4) (replicate 4 4) (u32s-walks 3) (λ t. walks-then (u32s 4) _ (replicate 4 4) [] (u32s-walks 4) (λ o. walks-give _))
 
 -- A record whose base walks `front`.
 module _ (include_index : Bool) (front : List ℕ) (front-walks : Walks (base_bits include_index) front) where

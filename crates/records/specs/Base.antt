@@ -1,12 +1,10 @@
 -- Document 01, "Records": "A base is frame, previous link, next link (i32 each); an additional record has its index (i32) before
 -- them, an initial record has none." Definitions only.
-use Rattle.std.specs.Prelude.{ℕ, ◌-◌, Bool, true, false}
+use Rattle.std.specs.Prelude.{ℕ, ℤ, ◌-◌, Bool, true, false, Option, Some, None}
 use Rattle.std.specs.Int.{w32}
 use Rattle.std.proofs.Common.{to_z}
 use Rattle.layout.specs.Walk.{Reader, ◌>>=◌, give, here, u32}
-use Rattle.binary.specs.Groups.{u32x3}
 use Rattle.records.specs.declared.base.BaseBits.{BaseBits}
-use Rattle.records.specs.declared.base.KeyframeIndex.{KeyframeIndex}
 use Rattle.records.specs.declared.base.PmmDocumentBaseKeyframeSummary.{PmmDocumentBaseKeyframeSummary}
 use Rattle.records.specs.declared.base.Span.{Span}
 
@@ -17,13 +15,15 @@ index_bits false = give 0
 unfoldable pub base_bits : Bool → Reader BaseBits
 base_bits include_index = do
   index ← index_bits include_index
-  b ← u32x3
+  frame ← u32
+  previous ← u32
+  next ← u32
   payload ← here
-  give (record { index = index; frame = b.0; previous = b.1; next = b.2; payload_offset = payload })
+  give (record { index = index; frame = frame; previous = previous; next = next; payload_offset = payload })
 
-abbrev pub index_of : Bool → ℕ → KeyframeIndex
-index_of true bits = KeyframeIndex.At (to_z w32 bits)
-index_of false bits = KeyframeIndex.Absent
+abbrev pub index_of : Bool → ℕ → Option ℤ
+index_of true bits = Some (to_z w32 bits)
+index_of false bits = None
 
 unfoldable pub base_of : Bool → BaseBits → PmmDocumentBaseKeyframeSummary
 base_of include_index b =

@@ -3,4 +3,3 @@ pub mod Pose
 pub mod Curves
 pub mod Keyframes
 pub mod States
-pub mod Answers

@@ -1,10 +1,10 @@
 -- Document 01, "Model section": "31 bytes a bone (translation, orientation, three bools: dirty, physics disabled, selected), 4 a
 -- morph (weight), 1 a constraint (bool), 16 an outside parent (four i32)". A morph's, a constraint's and an outside parent's state
 -- are read as they stand. Definitions only.
+use Rattle.std.specs.Prelude.{ℕ, List, slice_index}
 use Rattle.std.specs.Int.{w32}
 use Rattle.std.proofs.Common.{to_z}
 use Rattle.layout.specs.Walk.{Reader, ◌>>=◌, give, bool}
-use Rattle.binary.specs.declared.groups.Bits4.{Bits4}
 use Rattle.records.specs.Pose.{pose_bits, pose_of}
 use Rattle.records.specs.declared.states.BoneStateBits.{BoneStateBits}
 use Rattle.records.specs.declared.states.PmmDocumentBoneStateSummary.{PmmDocumentBoneStateSummary}
@@ -21,11 +21,11 @@ bone_state = do
 unfoldable pub bone_state_of : BoneStateBits → PmmDocumentBoneStateSummary
 bone_state_of b = record { pose = pose_of b.pose; dirty = b.dirty; physics_disabled = b.physics_disabled; selected = b.selected }
 
-unfoldable pub parent_state_of : Bits4 → PmmDocumentOutsideParentStateSummary
+unfoldable pub parent_state_of : List ℕ → PmmDocumentOutsideParentStateSummary
 parent_state_of b =
     record {
-      parent_model_index = to_z w32 b.0;
-      parent_model_bone_index = to_z w32 b.1;
-      subject_bone_index = to_z w32 b.2;
-      target_model_index = to_z w32 b.3;
+      parent_model_index = to_z w32 (slice_index b 0);
+      parent_model_bone_index = to_z w32 (slice_index b 1);
+      subject_bone_index = to_z w32 (slice_index b 2);
+      target_model_index = to_z w32 (slice_index b 3);
     }

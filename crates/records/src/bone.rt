@@ -1,13 +1,13 @@
 // A bone record and its summary.
 ghost use Rattle.std.specs.Prelude.{◌≡◌};
+ghost use Rattle.binary.specs.Answers.{read};
 ghost use Rattle.records.specs.Keyframes.{bone_bits, bone_of};
-ghost use Rattle.records.specs.Answers.{bone_read};
 
-use crate::base::{BaseBits, PmmDocumentBaseKeyframeSummary, ReadBase, Span};
-use crate::pose::{Pose, PoseBits, ReadPose};
+use crate::base::{BaseBits, PmmDocumentBaseKeyframeSummary, Span};
+use crate::pose::{Pose, PoseBits};
 use crate::{base, pose};
 use binary::numbers;
-use binary::numbers::{ReadBool, Skipped};
+use binary::refusal::Read;
 
 #[derive(Clone, Copy)]
 pub struct BoneBits {
@@ -15,12 +15,6 @@ pub struct BoneBits {
     pub pose: PoseBits,
     pub physics_disabled: bool,
     pub selected: bool,
-}
-
-#[derive(Clone, Copy)]
-pub enum ReadBone {
-    Read(BoneBits, usize),
-    Short(usize),
 }
 
 // The interpolation is answered beside the summary, as an array.
@@ -33,54 +27,41 @@ pub struct PmmDocumentBoneKeyframeSummary {
     pub span: Span,
 }
 
-pub fn read_bone(s: &[u8], at: usize, include_index: bool) -> ReadBone
-    ensures { bone_read result ≡ bone_bits include_index s.now at }
+#[tactic(auto, unfolding(crate::specs::Keyframes::bone_bits))]
+pub fn read_bone(s: &[u8], at: usize, include_index: bool) -> Read<BoneBits>
+    ensures { read result ≡ bone_bits include_index s.now at }
 {
-    match base::read_base(s, at, include_index) {
-        ReadBase::Short(place) => ReadBone::Short(place),
-        ReadBase::Read(base, at) => match numbers::skip(s, at, 16) {
-            Skipped::Short(place) => ReadBone::Short(place),
-            Skipped::To(at) => match pose::read_pose(s, at) {
-                ReadPose::Short(place) => ReadBone::Short(place),
-                ReadPose::Read(pose, at) => match numbers::read_bool(s, at) {
-                    ReadBool::Short(place) => ReadBone::Short(place),
-                    ReadBool::Value(physics_disabled, at) => match numbers::read_bool(s, at) {
-                        ReadBool::Short(place) => ReadBone::Short(place),
-                        ReadBool::Value(selected, next) => ReadBone::Read(
-                            BoneBits {
-                                base,
-                                pose,
-                                physics_disabled,
-                                selected,
-                            },
-                            next,
-                        ),
-                    },
-                },
-            },
-        },
-    }
-}
-
-// The summary of a record that stands from `offset` to `end`.
-pub fn bone_summary(
-    bits: BoneBits,
-    include_index: bool,
-    offset: usize,
-    end: usize,
-) -> PmmDocumentBoneKeyframeSummary
-    ensures { result ≡ bone_of include_index bits offset end }
-{
-    let base_bits = bits.base;
-    let pose_bits = bits.pose;
-    let base = base::base_summary(base_bits, include_index);
-    let pose = pose::pose_of(pose_bits);
-    let span = base::record_span(offset, base_bits.payload_offset, end);
-    PmmDocumentBoneKeyframeSummary {
+    let (base, at) = base::read_base(s, at, include_index)?;
+    let at = numbers::skip(s, at, 16)?;
+    let (pose, at) = pose::read_pose(s, at)?;
+    let (physics_disabled, at) = numbers::read_bool(s, at)?;
+    let (selected, next) = numbers::read_bool(s, at)?;
+    let bits = BoneBits {
         base,
         pose,
-        physics_disabled: bits.physics_disabled,
-        selected: bits.selected,
-        span,
+        physics_disabled,
+        selected,
+    };
+    Ok((bits, next))
+}
+
+impl BoneBits {
+    // The summary of a record that stands from `offset` to `end`.
+    #[tactic(auto, unfolding(crate::specs::Keyframes::bone_of))]
+    pub fn summary(
+        self,
+        include_index: bool,
+        offset: usize,
+        end: usize,
+    ) -> PmmDocumentBoneKeyframeSummary
+        ensures { result ≡ bone_of include_index self offset end }
+    {
+        PmmDocumentBoneKeyframeSummary {
+            base: self.base.summary(include_index),
+            pose: Pose::from(self.pose),
+            physics_disabled: self.physics_disabled,
+            selected: self.selected,
+            span: Span::new(offset, self.base.payload_offset, end),
+        }
     }
 }

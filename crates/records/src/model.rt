@@ -1,14 +1,11 @@
 // A model record and its summary. Its bools and pairs are answered by number elsewhere.
 ghost use Rattle.std.specs.Prelude.{◌≡◌};
-ghost use Rattle.layout.specs.Walk.{times, items};
-ghost use Rattle.binary.specs.Answers.{skipped};
-ghost use Rattle.layout.specs.Records.{constraint_state, pair};
+ghost use Rattle.binary.specs.Answers.{read};
 ghost use Rattle.records.specs.Keyframes.{model_bits, model_of};
-ghost use Rattle.records.specs.Answers.{model_read};
 
-use crate::base::{BaseBits, PmmDocumentBaseKeyframeSummary, ReadBase, Span};
+use crate::base::{BaseBits, PmmDocumentBaseKeyframeSummary, Span};
 use crate::{base, items};
-use binary::numbers::{ReadBool, Skipped};
+use binary::refusal::Read;
 use binary::{blocks, numbers};
 
 #[derive(Clone, Copy)]
@@ -19,12 +16,6 @@ pub struct ModelBits {
     pub constraint_states_offset: usize,
     pub outside_parent_indices_offset: usize,
     pub self_shadow_enabled_offset: usize,
-}
-
-#[derive(Clone, Copy)]
-pub enum ReadModelRecord {
-    Read(ModelBits, usize),
-    Short(usize),
 }
 
 #[derive(Clone, Copy)]
@@ -43,89 +34,73 @@ pub struct PmmDocumentModelKeyframeSummary {
     pub span: Span,
 }
 
-fn skip_bools(s: &[u8], at: usize, count: u32) -> Skipped
-    ensures { skipped result ≡ times count (items constraint_state) s.now at }
-{
-    blocks::skip_records(s, at, count, items::constraint_state_items())
-}
-
-fn skip_pairs(s: &[u8], at: usize, count: u32) -> Skipped
-    ensures { skipped result ≡ times count (items pair) s.now at }
-{
-    blocks::skip_records(s, at, count, items::pair_items())
-}
-
+#[tactic(auto, unfolding(crate::specs::Keyframes::model_bits))]
 pub fn read_model_record(
     s: &[u8],
     at: usize,
     include_index: bool,
     constraints: u32,
     parents: u32,
-) -> ReadModelRecord
-    ensures { model_read result ≡ model_bits include_index constraints parents s.now at }
+) -> Read<ModelBits>
+    ensures { read result ≡ model_bits include_index constraints parents s.now at }
 {
-    match base::read_base(s, at, include_index) {
-        ReadBase::Short(place) => ReadModelRecord::Short(place),
-        ReadBase::Read(base, at) => match numbers::read_bool(s, at) {
-            ReadBool::Short(place) => ReadModelRecord::Short(place),
-            ReadBool::Value(visible, bools) => match skip_bools(s, bools, constraints) {
-                Skipped::Short(place) => ReadModelRecord::Short(place),
-                Skipped::To(pairs) => match skip_pairs(s, pairs, parents) {
-                    Skipped::Short(place) => ReadModelRecord::Short(place),
-                    Skipped::To(shadow) => match numbers::read_bool(s, shadow) {
-                        ReadBool::Short(place) => ReadModelRecord::Short(place),
-                        ReadBool::Value(self_shadow_enabled, next) => ReadModelRecord::Read(
-                            ModelBits {
-                                base,
-                                visible,
-                                self_shadow_enabled,
-                                constraint_states_offset: bools,
-                                outside_parent_indices_offset: pairs,
-                                self_shadow_enabled_offset: shadow,
-                            },
-                            next,
-                        ),
-                    },
-                },
-            },
-        },
-    }
+    let (base, at) = base::read_base(s, at, include_index)?;
+    let (visible, constraint_states_offset) = numbers::read_bool(s, at)?;
+    let bools = items::constraint_state_items();
+    let outside_parent_indices_offset = blocks::skip_records(
+        s,
+        constraint_states_offset,
+        constraints,
+        &bools,
+    )?;
+    let pairs = items::pair_items();
+    let self_shadow_enabled_offset = blocks::skip_records(
+        s,
+        outside_parent_indices_offset,
+        parents,
+        &pairs,
+    )?;
+    let (self_shadow_enabled, next) = numbers::read_bool(s, self_shadow_enabled_offset)?;
+    let bits = ModelBits {
+        base,
+        visible,
+        self_shadow_enabled,
+        constraint_states_offset,
+        outside_parent_indices_offset,
+        self_shadow_enabled_offset,
+    };
+    Ok((bits, next))
 }
 
-// The summary of a record that stands from `offset` to `end`, in a section of that many constraints and outside parents.
-pub fn model_summary(
-    bits: ModelBits,
-    include_index: bool,
-    constraints: u32,
-    parents: u32,
-    offset: usize,
-    end: usize,
-) -> PmmDocumentModelKeyframeSummary
-    ensures { result ≡ model_of include_index constraints parents bits offset end }
-{
-    let base_bits = bits.base;
-    let base = base::base_summary(base_bits, include_index);
-    let span = base::record_span(offset, base_bits.payload_offset, end);
-    let bools = base::distance(
-        bits.constraint_states_offset,
-        bits.outside_parent_indices_offset,
-    );
-    let pairs = base::distance(
-        bits.outside_parent_indices_offset,
-        bits.self_shadow_enabled_offset,
-    );
-    PmmDocumentModelKeyframeSummary {
-        base,
-        visible: bits.visible,
-        self_shadow_enabled: bits.self_shadow_enabled,
-        visible_offset: base_bits.payload_offset,
-        constraint_state_count: constraints as usize,
-        constraint_states_offset: bits.constraint_states_offset,
-        constraint_states_byte_length: bools,
-        outside_parent_index_count: parents as usize,
-        outside_parent_indices_offset: bits.outside_parent_indices_offset,
-        outside_parent_indices_byte_length: pairs,
-        self_shadow_enabled_offset: bits.self_shadow_enabled_offset,
-        span,
+impl ModelBits {
+    // The summary of a record that stands from `offset` to `end`, in a section of that many constraints and outside parents.
+    #[tactic(auto, unfolding(crate::specs::Keyframes::model_of))]
+    pub fn summary(
+        self,
+        include_index: bool,
+        constraints: u32,
+        parents: u32,
+        offset: usize,
+        end: usize,
+    ) -> PmmDocumentModelKeyframeSummary
+        ensures { result ≡ model_of include_index constraints parents self offset end }
+    {
+        let bools = self.constraint_states_offset;
+        let pairs = self.outside_parent_indices_offset;
+        let shadow = self.self_shadow_enabled_offset;
+        PmmDocumentModelKeyframeSummary {
+            base: self.base.summary(include_index),
+            visible: self.visible,
+            self_shadow_enabled: self.self_shadow_enabled,
+            visible_offset: self.base.payload_offset,
+            constraint_state_count: constraints as usize,
+            constraint_states_offset: bools,
+            constraint_states_byte_length: pairs.saturating_sub(bools),
+            outside_parent_index_count: parents as usize,
+            outside_parent_indices_offset: pairs,
+            outside_parent_indices_byte_length: shadow.saturating_sub(pairs),
+            self_shadow_enabled_offset: shadow,
+            span: Span::new(offset, self.base.payload_offset, end),
+        }
     }
 }

@@ -1,24 +1,19 @@
 // A morph record and its summary.
 ghost use Rattle.std.specs.Prelude.{◌≡◌};
+ghost use Rattle.binary.specs.Answers.{read};
 ghost use Rattle.records.specs.Keyframes.{morph_bits, morph_of};
-ghost use Rattle.records.specs.Answers.{morph_read};
 
 use crate::base;
-use crate::base::{BaseBits, PmmDocumentBaseKeyframeSummary, ReadBase, Span};
+use crate::base::{BaseBits, PmmDocumentBaseKeyframeSummary, Span};
 use binary::numbers;
-use binary::numbers::{ReadBool, ReadU32};
+use binary::refusal::Read;
+use std::num;
 
 #[derive(Clone, Copy)]
 pub struct MorphBits {
     pub base: BaseBits,
     pub weight: u32,
     pub selected: bool,
-}
-
-#[derive(Clone, Copy)]
-pub enum ReadMorph {
-    Read(MorphBits, usize),
-    Short(usize),
 }
 
 #[derive(Clone, Copy)]
@@ -29,45 +24,37 @@ pub struct PmmDocumentMorphKeyframeSummary {
     pub span: Span,
 }
 
-pub fn read_morph(s: &[u8], at: usize, include_index: bool) -> ReadMorph
-    ensures { morph_read result ≡ morph_bits include_index s.now at }
+#[tactic(auto, unfolding(crate::specs::Keyframes::morph_bits))]
+pub fn read_morph(s: &[u8], at: usize, include_index: bool) -> Read<MorphBits>
+    ensures { read result ≡ morph_bits include_index s.now at }
 {
-    match base::read_base(s, at, include_index) {
-        ReadBase::Short(place) => ReadMorph::Short(place),
-        ReadBase::Read(base, at) => match numbers::read_u32_le(s, at) {
-            ReadU32::Short(place) => ReadMorph::Short(place),
-            ReadU32::Value(weight, at) => match numbers::read_bool(s, at) {
-                ReadBool::Short(place) => ReadMorph::Short(place),
-                ReadBool::Value(selected, next) => ReadMorph::Read(
-                    MorphBits {
-                        base,
-                        weight,
-                        selected,
-                    },
-                    next,
-                ),
-            },
-        },
-    }
-}
-
-// The summary of a record that stands from `offset` to `end`.
-pub fn morph_summary(
-    bits: MorphBits,
-    include_index: bool,
-    offset: usize,
-    end: usize,
-) -> PmmDocumentMorphKeyframeSummary
-    ensures { result ≡ morph_of include_index bits offset end }
-{
-    let base_bits = bits.base;
-    let base = base::base_summary(base_bits, include_index);
-    let weight = numbers::float(bits.weight);
-    let span = base::record_span(offset, base_bits.payload_offset, end);
-    PmmDocumentMorphKeyframeSummary {
+    let (base, at) = base::read_base(s, at, include_index)?;
+    let (weight, at) = numbers::read_u32_le(s, at)?;
+    let (selected, next) = numbers::read_bool(s, at)?;
+    let bits = MorphBits {
         base,
         weight,
-        selected: bits.selected,
-        span,
+        selected,
+    };
+    Ok((bits, next))
+}
+
+impl MorphBits {
+    // The summary of a record that stands from `offset` to `end`.
+    #[tactic(auto, unfolding(crate::specs::Keyframes::morph_of))]
+    pub fn summary(
+        self,
+        include_index: bool,
+        offset: usize,
+        end: usize,
+    ) -> PmmDocumentMorphKeyframeSummary
+        ensures { result ≡ morph_of include_index self offset end }
+    {
+        PmmDocumentMorphKeyframeSummary {
+            base: self.base.summary(include_index),
+            weight: num::f32_from_bits_with_nan(self.weight),
+            selected: self.selected,
+            span: Span::new(offset, self.base.payload_offset, end),
+        }
     }
 }

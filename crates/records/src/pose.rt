@@ -1,21 +1,16 @@
 // A pose is three translation floats and four orientation floats (document 01, "Forms by place in the code").
 ghost use Rattle.std.specs.Prelude.{◌≡◌};
+ghost use Rattle.binary.specs.Answers.{read};
 ghost use Rattle.records.specs.Pose.{pose_bits, pose_of};
-ghost use Rattle.records.specs.Answers.{pose_read};
 
-use binary::groups::{Bits3, Bits4, ReadBits3, ReadBits4};
-use binary::{groups, numbers};
+use binary::groups;
+use binary::refusal::Read;
+use std::num;
 
 #[derive(Clone, Copy)]
 pub struct PoseBits {
-    pub translation: Bits3,
-    pub orientation: Bits4,
-}
-
-#[derive(Clone, Copy)]
-pub enum ReadPose {
-    Read(PoseBits, usize),
-    Short(usize),
+    pub translation: [u32; 3],
+    pub orientation: [u32; 4],
 }
 
 #[derive(Clone, Copy)]
@@ -29,36 +24,34 @@ pub struct Pose {
     pub orientation_w: f32,
 }
 
-pub fn read_pose(s: &[u8], at: usize) -> ReadPose
-    ensures { pose_read result ≡ pose_bits s.now at }
+#[tactic(auto, unfolding(crate::specs::Pose::pose_bits))]
+pub fn read_pose(s: &[u8], at: usize) -> Read<PoseBits>
+    ensures { read result ≡ pose_bits s.now at }
 {
-    match groups::read_u32x3_le(s, at) {
-        ReadBits3::Short(place) => ReadPose::Short(place),
-        ReadBits3::Value(translation, at) => match groups::read_u32x4_le(s, at) {
-            ReadBits4::Short(place) => ReadPose::Short(place),
-            ReadBits4::Value(orientation, next) => ReadPose::Read(
-                PoseBits {
-                    translation,
-                    orientation,
-                },
-                next,
-            ),
-        },
-    }
+    let (translation, at) = groups::read_u32s_le(s, at)?;
+    let (orientation, next) = groups::read_u32s_le(s, at)?;
+    let bits = PoseBits {
+        translation,
+        orientation,
+    };
+    Ok((bits, next))
 }
 
-pub fn pose_of(bits: PoseBits) -> Pose
-    ensures { result ≡ pose_of bits }
-{
-    let t = bits.translation;
-    let o = bits.orientation;
-    Pose {
-        translation_x: numbers::float(t.0),
-        translation_y: numbers::float(t.1),
-        translation_z: numbers::float(t.2),
-        orientation_x: numbers::float(o.0),
-        orientation_y: numbers::float(o.1),
-        orientation_z: numbers::float(o.2),
-        orientation_w: numbers::float(o.3),
+impl From<PoseBits> for Pose {
+    ghost from_gives = { λ bits pose. pose ≡ pose_of bits };
+
+    #[tactic(auto, unfolding(crate::specs::Pose::pose_of))]
+    fn from(bits: PoseBits) -> Pose {
+        let [x, y, z] = bits.translation;
+        let [i, j, k, w] = bits.orientation;
+        Pose {
+            translation_x: num::f32_from_bits_with_nan(x),
+            translation_y: num::f32_from_bits_with_nan(y),
+            translation_z: num::f32_from_bits_with_nan(z),
+            orientation_x: num::f32_from_bits_with_nan(i),
+            orientation_y: num::f32_from_bits_with_nan(j),
+            orientation_z: num::f32_from_bits_with_nan(k),
+            orientation_w: num::f32_from_bits_with_nan(w),
+        }
     }
 }

@@ -1,13 +1,12 @@
 // The state of a bone, a morph, a constraint or an outside parent.
 ghost use Rattle.std.specs.Prelude.{◌≡◌};
+ghost use Rattle.binary.specs.Answers.{read};
 ghost use Rattle.records.specs.States.{bone_state, bone_state_of, parent_state_of};
-ghost use Rattle.records.specs.Answers.{bone_state_read};
 
 use crate::pose;
-use crate::pose::{Pose, PoseBits, ReadPose};
-use binary::groups::Bits4;
+use crate::pose::{Pose, PoseBits};
 use binary::numbers;
-use binary::numbers::ReadBool;
+use binary::refusal::Read;
 
 #[derive(Clone, Copy)]
 pub struct BoneStateBits {
@@ -15,12 +14,6 @@ pub struct BoneStateBits {
     pub dirty: bool,
     pub physics_disabled: bool,
     pub selected: bool,
-}
-
-#[derive(Clone, Copy)]
-pub enum ReadBoneState {
-    Read(BoneStateBits, usize),
-    Short(usize),
 }
 
 #[derive(Clone, Copy)]
@@ -39,52 +32,48 @@ pub struct PmmDocumentOutsideParentStateSummary {
     pub target_model_index: i32,
 }
 
-pub fn read_bone_state(s: &[u8], at: usize) -> ReadBoneState
-    ensures { bone_state_read result ≡ bone_state s.now at }
+#[tactic(auto, unfolding(crate::specs::States::bone_state))]
+pub fn read_bone_state(s: &[u8], at: usize) -> Read<BoneStateBits>
+    ensures { read result ≡ bone_state s.now at }
 {
-    match pose::read_pose(s, at) {
-        ReadPose::Short(place) => ReadBoneState::Short(place),
-        ReadPose::Read(pose, at) => match numbers::read_bool(s, at) {
-            ReadBool::Short(place) => ReadBoneState::Short(place),
-            ReadBool::Value(dirty, at) => match numbers::read_bool(s, at) {
-                ReadBool::Short(place) => ReadBoneState::Short(place),
-                ReadBool::Value(physics_disabled, at) => match numbers::read_bool(s, at) {
-                    ReadBool::Short(place) => ReadBoneState::Short(place),
-                    ReadBool::Value(selected, next) => ReadBoneState::Read(
-                        BoneStateBits {
-                            pose,
-                            dirty,
-                            physics_disabled,
-                            selected,
-                        },
-                        next,
-                    ),
-                },
-            },
-        },
-    }
-}
-
-pub fn bone_state_summary(bits: BoneStateBits) -> PmmDocumentBoneStateSummary
-    ensures { result ≡ bone_state_of bits }
-{
-    let pose_bits = bits.pose;
-    let pose = pose::pose_of(pose_bits);
-    PmmDocumentBoneStateSummary {
+    let (pose, at) = pose::read_pose(s, at)?;
+    let (dirty, at) = numbers::read_bool(s, at)?;
+    let (physics_disabled, at) = numbers::read_bool(s, at)?;
+    let (selected, next) = numbers::read_bool(s, at)?;
+    let bits = BoneStateBits {
         pose,
-        dirty: bits.dirty,
-        physics_disabled: bits.physics_disabled,
-        selected: bits.selected,
+        dirty,
+        physics_disabled,
+        selected,
+    };
+    Ok((bits, next))
+}
+
+impl From<BoneStateBits> for PmmDocumentBoneStateSummary {
+    ghost from_gives = { λ bits state. state ≡ bone_state_of bits };
+
+    #[tactic(auto, unfolding(crate::specs::States::bone_state_of))]
+    fn from(bits: BoneStateBits) -> PmmDocumentBoneStateSummary {
+        PmmDocumentBoneStateSummary {
+            pose: Pose::from(bits.pose),
+            dirty: bits.dirty,
+            physics_disabled: bits.physics_disabled,
+            selected: bits.selected,
+        }
     }
 }
 
-pub fn outside_parent_state_summary(bits: Bits4) -> PmmDocumentOutsideParentStateSummary
-    ensures { result ≡ parent_state_of bits }
-{
-    PmmDocumentOutsideParentStateSummary {
-        parent_model_index: numbers::signed(bits.0),
-        parent_model_bone_index: numbers::signed(bits.1),
-        subject_bone_index: numbers::signed(bits.2),
-        target_model_index: numbers::signed(bits.3),
+impl From<[u32; 4]> for PmmDocumentOutsideParentStateSummary {
+    ghost from_gives = { λ bits state. state ≡ parent_state_of bits };
+
+    #[tactic(auto, unfolding(crate::specs::States::parent_state_of))]
+    fn from(bits: [u32; 4]) -> PmmDocumentOutsideParentStateSummary {
+        let [model, bone, subject, target] = bits.map(u32::cast_signed);
+        PmmDocumentOutsideParentStateSummary {
+            parent_model_index: model,
+            parent_model_bone_index: bone,
+            subject_bone_index: subject,
+            target_model_index: target,
+        }
     }
 }

@@ -1,3 +1,0 @@
-pub mod Reading
-pub mod Facts
-pub mod Blocks

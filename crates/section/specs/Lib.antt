@@ -1,4 +1,3 @@
 pub mod Limits
 pub mod Model
-pub mod Answers
 pub mod Summary

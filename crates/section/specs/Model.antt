@@ -2,7 +2,7 @@
 use Rattle.std.specs.Prelude.{ℕ, ◌*◌, cond, List, [], ltb, length}
 use Rattle.layout.specs.Walk.{Reader, ◌>>=◌, ◌>>◌, give, here, u8, bool, u32, block, string, times, items, count, unlimited, refused, refusal}
 use Rattle.layout.specs.Records.{initial, additional, bone, morph, model, bone_state, morph_state, constraint_state, parent_state}
-use Rattle.binary.specs.Groups.{u32x4}
+use Rattle.binary.specs.Groups.{u32s}
 use Rattle.section.specs.Limits.{Limits}
 use Rattle.section.specs.declared.opening.Opening.{Opening}
 use Rattle.section.specs.declared.names.Names.{Names}
@@ -58,7 +58,7 @@ view = do
   order ← u8
   visible ← bool
   bone ← u32
-  morphs ← u32x4
+  morphs ← u32s 4
   give (record { draw_order_index = order; visible = visible; selected_bone = bone; selected_morphs = morphs })
 
 -- "expansion count u8 and that many skipped bytes; vertical scroll i32; last frame i32"

@@ -1,19 +1,15 @@
 -- Document 01, module 2: the Rust's summary of a model section, or the refusal. Definitions only.
-use Rattle.std.specs.Prelude.{ℕ, List, ℤ}
+use Rattle.std.specs.Prelude.{ℕ, List, ℤ, map}
 use Rattle.std.specs.Float.Ieee.{of_bits}
 use Rattle.std.specs.Float.{binary32}
 use Rattle.std.specs.Int.{w32}
 use Rattle.std.proofs.Common.{to_z}
-use Rattle.layout.specs.Walk.{fine, after, Answer, answered, declined, answer}
-use Rattle.binary.specs.Answers.{because}
+use Rattle.layout.specs.Walk.{fine, after, Answer, answer}
 use Rattle.section.specs.Limits.{Limits}
 use Rattle.section.specs.Model.{model_section}
-use Rattle.binary.specs.declared.groups.Bits4.{Bits4}
 use Rattle.section.specs.declared.model.Model.{Model}
 use Rattle.section.specs.declared.summary.PmmDocumentModelSections.{PmmDocumentModelSections}
-use Rattle.section.specs.declared.summary.SelectedMorphIndices.{SelectedMorphIndices}
 use Rattle.section.specs.declared.summary.PmmDocumentModelSummary.{PmmDocumentModelSummary}
-use Rattle.section.specs.declared.summary.ModelSummary.{ModelSummary}
 
 -- "i32 is signed": the number that 32 bits stand for.
 abbrev pub signed : ℕ → ℤ
@@ -40,9 +36,6 @@ sections_of m =
       outside_parent_states_offset = m.states.parents;
     }
 
-unfoldable pub indices_of : Bits4 → SelectedMorphIndices
-indices_of b = record { 0 = signed b.0; 1 = signed b.1; 2 = signed b.2; 3 = signed b.3 }
-
 -- The summary of a section that starts at `start` and ends at `end`.
 unfoldable pub summary_of : ℕ → Model → ℕ → PmmDocumentModelSummary
 summary_of start m end =
@@ -58,7 +51,7 @@ summary_of start m end =
       draw_order_index = m.front.view.draw_order_index;
       transform_order_index = m.ending.transform_order_index;
       selected_bone_index = signed m.front.view.selected_bone;
-      selected_morph_indices = indices_of m.front.view.selected_morphs;
+      selected_morph_indices = map signed m.front.view.selected_morphs;
       vertical_scroll = signed m.front.scroll.vertical_scroll;
       sections = sections_of m;
       initial_bone_keyframes = m.front.counts.bones.count;
@@ -76,7 +69,3 @@ summary_of start m end =
 
 unfoldable pub model_summary : Limits → List ℕ → ℕ → Answer PmmDocumentModelSummary
 model_summary limits s start = answer (after (model_section limits s start) (λ m end. fine (summary_of start m end) end))
-
-abbrev pub model_summary_read : ModelSummary → Answer PmmDocumentModelSummary
-model_summary_read (ModelSummary.Read m) = answered m
-model_summary_read (ModelSummary.Refused why) = declined (because why)

@@ -1,14 +1,10 @@
 // A model section's end: the states, then blend, edge width, self shadow and transform order.
 ghost use Rattle.std.specs.Prelude.{◌≡◌};
-ghost use Rattle.layout.specs.Walk.{items, times};
-ghost use Rattle.layout.specs.Records.{bone_state, morph_state, constraint_state, parent_state};
-ghost use Rattle.binary.specs.Answers.{skipped};
+ghost use Rattle.binary.specs.Answers.{read};
 ghost use Rattle.section.specs.Model.{states, ending};
-ghost use Rattle.section.specs.Answers.{states_read, ending_read};
 
 use crate::names::Counts;
-use binary::counts::Refusal;
-use binary::numbers::{ReadBool, ReadU8, ReadU32, Skipped};
+use binary::refusal::Read;
 use binary::{blocks, numbers};
 use records::items;
 
@@ -22,12 +18,6 @@ pub struct States {
 }
 
 #[derive(Clone, Copy)]
-pub enum ReadStates {
-    Read(States, usize),
-    Refused(Refusal),
-}
-
-#[derive(Clone, Copy)]
 pub struct Ending {
     pub blend_enabled: bool,
     pub edge_width: u32,
@@ -35,88 +25,38 @@ pub struct Ending {
     pub transform_order_index: u8,
 }
 
-#[derive(Clone, Copy)]
-pub enum ReadEnding {
-    Read(Ending, usize),
-    Refused(Refusal),
+#[tactic(auto, unfolding(crate::specs::Model::states))]
+pub fn read_states(s: &[u8], at: usize, counts: Counts) -> Read<States>
+    ensures { read result ≡ states counts s.now at }
+{
+    let (bone, morph) = (items::bone_state_items(), items::morph_state_items());
+    let morphs = blocks::skip_records(s, at, counts.bones.count, &bone)?;
+    let constraints = blocks::skip_records(s, morphs, counts.morphs.count, &morph)?;
+    let (constraint, parent) = (items::constraint_state_items(), items::parent_state_items());
+    let parents = blocks::skip_records(s, constraints, counts.constraints, &constraint)?;
+    let next = blocks::skip_records(s, parents, counts.parents, &parent)?;
+    let states = States {
+        bones: at,
+        morphs,
+        constraints,
+        parents,
+    };
+    Ok((states, next))
 }
 
-fn skip_bone_states(s: &[u8], at: usize, count: u32) -> Skipped
-    ensures { skipped result ≡ times count (items bone_state) s.now at }
+#[tactic(auto, unfolding(crate::specs::Model::ending))]
+pub fn read_ending(s: &[u8], at: usize) -> Read<Ending>
+    ensures { read result ≡ ending s.now at }
 {
-    blocks::skip_records(s, at, count, items::bone_state_items())
-}
-
-fn skip_morph_states(s: &[u8], at: usize, count: u32) -> Skipped
-    ensures { skipped result ≡ times count (items morph_state) s.now at }
-{
-    blocks::skip_records(s, at, count, items::morph_state_items())
-}
-
-fn skip_constraint_states(s: &[u8], at: usize, count: u32) -> Skipped
-    ensures { skipped result ≡ times count (items constraint_state) s.now at }
-{
-    blocks::skip_records(s, at, count, items::constraint_state_items())
-}
-
-fn skip_parent_states(s: &[u8], at: usize, count: u32) -> Skipped
-    ensures { skipped result ≡ times count (items parent_state) s.now at }
-{
-    blocks::skip_records(s, at, count, items::parent_state_items())
-}
-
-pub fn read_states(s: &[u8], at: usize, counts: Counts) -> ReadStates
-    ensures { states_read result ≡ states counts s.now at }
-{
-    match skip_bone_states(s, at, counts.bones.count) {
-        Skipped::Short(place) => ReadStates::Refused(Refusal::TooShort(place)),
-        Skipped::To(morphs) => match skip_morph_states(s, morphs, counts.morphs.count) {
-            Skipped::Short(place) => ReadStates::Refused(Refusal::TooShort(place)),
-            Skipped::To(constraints) => match skip_constraint_states(
-                s,
-                constraints,
-                counts.constraints,
-            ) {
-                Skipped::Short(place) => ReadStates::Refused(Refusal::TooShort(place)),
-                Skipped::To(parents) => match skip_parent_states(s, parents, counts.parents) {
-                    Skipped::Short(place) => ReadStates::Refused(Refusal::TooShort(place)),
-                    Skipped::To(next) => ReadStates::Read(
-                        States {
-                            bones: at,
-                            morphs,
-                            constraints,
-                            parents,
-                        },
-                        next,
-                    ),
-                },
-            },
-        },
-    }
-}
-
-pub fn read_ending(s: &[u8], at: usize) -> ReadEnding
-    ensures { ending_read result ≡ ending s.now at }
-{
-    match numbers::read_bool(s, at) {
-        ReadBool::Short(place) => ReadEnding::Refused(Refusal::TooShort(place)),
-        ReadBool::Value(blend_enabled, at) => match numbers::read_u32_le(s, at) {
-            ReadU32::Short(place) => ReadEnding::Refused(Refusal::TooShort(place)),
-            ReadU32::Value(edge_width, at) => match numbers::read_bool(s, at) {
-                ReadBool::Short(place) => ReadEnding::Refused(Refusal::TooShort(place)),
-                ReadBool::Value(self_shadow_enabled, at) => match numbers::read_u8(s, at) {
-                    ReadU8::Short(place) => ReadEnding::Refused(Refusal::TooShort(place)),
-                    ReadU8::Value(transform_order_index, next) => ReadEnding::Read(
-                        Ending {
-                            blend_enabled,
-                            edge_width,
-                            self_shadow_enabled,
-                            transform_order_index,
-                        },
-                        next,
-                    ),
-                },
-            },
-        },
-    }
+    let (blend_enabled, at) = numbers::read_bool(s, at)?;
+    let (edge_width, at) = numbers::read_u32_le(s, at)?;
+    let (self_shadow_enabled, at) = numbers::read_bool(s, at)?;
+    let (transform_order_index, next) = numbers::read_u8(s, at)?;
+    let ending = Ending {
+        blend_enabled,
+        edge_width,
+        self_shadow_enabled,
+        transform_order_index,
+    };
+    Ok((ending, next))
 }

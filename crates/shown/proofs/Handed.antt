@@ -10,7 +10,7 @@ use Rattle.layout.specs.Walk.{fine, Reader, ◌>>=◌, ◌>>◌, give, here, boo
 use Rattle.layout.specs.Records.{bone, morph, model, camera, light, constraint_state, pair, size}
 use Rattle.layout.proofs.Inversion.{came, same-value}
 use Rattle.layout.proofs.Walks.{Walks}
-use Rattle.binary.specs.Groups.{u32x3}
+use Rattle.binary.specs.Groups.{u32s}
 use Rattle.records.specs.Keyframes.{bone_bits, bone_of, morph_bits, morph_of, model_bits, model_of}
 use Rattle.records.specs.declared.base.BaseBits.{BaseBits}
 use Rattle.records.specs.declared.bone.BoneBits.{BoneBits}
@@ -62,8 +62,8 @@ camera_rest base = do
 
 abbrev light_rest : BaseBits → Reader LightBits
 light_rest base = do
-  color ← u32x3
-  direction ← u32x3
+  color ← u32s 3
+  direction ← u32s 3
   selected ← bool
   give (record { base = base; color = color; direction = direction; selected = selected })
 
@@ -91,8 +91,8 @@ module _ (s : List ℕ) (b : BaseBits) (i : ℕ) where
 
   light-keeps : (v : LightBits) (next : ℕ) → light_rest b s i ≡ fine v next → b ≡ v.base
   light-keeps v next e =
-      let color = came (u32x3 s i) _ v next e in
-      let direction = came (u32x3 s color.at) _ v next color.rest in
+      let color = came (u32s 3 s i) _ v next e in
+      let direction = came (u32s 3 s color.at) _ v next color.rest in
       let selected = came (bool s direction.at) _ v next direction.rest in
       ap (λ (v : LightBits). v.base) (same-value selected.rest)
 

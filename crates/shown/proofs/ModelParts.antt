@@ -1,22 +1,21 @@
 -- The bools and pairs of a model record that was read. Assumes nothing.
 use Prim.Native.Nat.{ℕ, ◌<◌}
 use mathlib.Core.Bool.{Bool}
-use mathlib.Core.List.{List as ListOf, [], ◌∷◌}
+use mathlib.Core.List.{List as ListOf}
 use mathlib.Core.Path.{◌≡◌, refl, ap, subst, ◌∙◌}
 use borrow.Author.Tests.{lt-ltb, le-ltb}
-use Rattle.layout.specs.Walk.{Walk, fine, Reader, after, bool, u32, times, items}
+use Rattle.layout.specs.Walk.{Walk, fine, Reader, after, bool, times, items}
 use Rattle.layout.specs.Records.{constraint_state, pair}
 use Rattle.layout.proofs.Inversion.{Reads, came, same-value}
-use Rattle.layout.proofs.Walks.{Walks, walks-read, walks-give, walks-then, walks-bool, walks-u32}
+use Rattle.layout.proofs.Walks.{Walks, walks-read, walks-bool}
+use Rattle.binary.specs.Groups.{u32s}
+use Rattle.records.proofs.Table.{u32s-walks}
 use Rattle.records.specs.Base.{base_bits}
 use Rattle.records.specs.Keyframes.{model_bits}
 use Rattle.records.specs.declared.model.ModelBits.{ModelBits}
 use Rattle.lists.specs.Lists.{listed, entry_at}
-use Rattle.lists.specs.ModelLists.{flag_bits, pair_bits, two_bits}
+use Rattle.lists.specs.ModelLists.{flag_bits, pair_bits}
 use Rattle.shown.proofs.Whole.{ByNumber, behind}
-
-two-walks : Walks two_bits pair
-two-walks = walks-then u32 _ (4 ∷ []) (4 ∷ []) walks-u32 (λ a. walks-then u32 _ (4 ∷ []) [] walks-u32 (λ b. walks-give _))
 
 -- Both lists of the record were read, from where its bits say that they stand.
 record ListsRead (constraints parents : ℕ) (s : ListOf ℕ) (b : ModelBits) : Type 0 where
@@ -64,4 +63,4 @@ module _ (include_index : Bool) (constraints parents : ℕ) (s : ListOf ℕ) (at
 
   pub pair-told : ByNumber parents k (pair_bits include_index constraints parents k s at)
   unfolding pair_bits entry
-  pair-told = rw reads (entry-told two_bits pair two-walks parents _ _ s lists.pairs k)
+  pair-told = rw reads (entry-told (u32s 2) pair (u32s-walks 2) parents _ _ s lists.pairs k)

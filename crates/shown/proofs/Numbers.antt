@@ -5,9 +5,10 @@ use mathlib.Core.List.{List as ListOf}
 use mathlib.Core.Path.{◌≡◌, refl, subst}
 use native.Mathlib.Omega.{arith}
 use borrow.Author.Tests.{lt-ltb, le-ltb}
-use Rattle.layout.specs.Walk.{Refusal, Walk, fine, refused, Reader, Answer, answered, declined, answer, after, Part}
+use Rattle.layout.specs.Walk.{Refusal, Walk, fine, refused, Reader, Answer, answered, declined, answer, after}
+use Rattle.layout.specs.declared.Part.{Part}
 use Rattle.layout.proofs.Walks.{Walks, walks-bool, walks-u32}
-use Rattle.records.proofs.Table.{bones-walk, morphs-walk, models-walk, bone-states-walk, u32x4-walks}
+use Rattle.records.proofs.Table.{bones-walk, morphs-walk, models-walk, bone-states-walk, u32s-walks}
 use Rattle.records.specs.Keyframes.{model_bits}
 use Rattle.records.specs.declared.model.ModelBits.{ModelBits}
 use Rattle.section.specs.Limits.{Limits}
@@ -78,7 +79,7 @@ module _ (limits : Limits) (s : ListOf ℕ) (start : ℕ) (m : Model) (end : ℕ
         bone_states = list-told List.BoneStates _ _ bone-states-walk;
         morph_states = list-told List.MorphStates _ _ walks-u32;
         constraint_states = list-told List.ConstraintStates _ _ walks-bool;
-        parent_states = list-told List.OutsideParentStates _ _ u32x4-walks;
+        parent_states = list-told List.OutsideParentStates _ _ (u32s-walks 4);
         initial_flags = parts-told List.InitialModels false m.front.counts.constraints _ _ (models-walk c p).0 (flag-told false c p s);
         flags = parts-told List.Models true m.front.counts.constraints _ _ (models-walk c p).1 (flag-told true c p s);
         initial_pairs = parts-told List.InitialModels false m.front.counts.parents _ _ (models-walk c p).0 (pair-told false c p s);

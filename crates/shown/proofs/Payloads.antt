@@ -11,10 +11,10 @@ use Rattle.layout.specs.Walk.{Walk, fine, refused, Reader, ◌>>=◌, block, ite
 use Rattle.layout.specs.Records.{base, initial, additional, size}
 use Rattle.layout.proofs.Inversion.{came, same-value, item-fits}
 use Rattle.layout.proofs.Walks.{Walks, end as ended}
-use Rattle.binary.specs.Groups.{u32x3}
 use Rattle.records.specs.Base.{index_bits, base_bits, span_of}
 use Rattle.records.specs.declared.base.BaseBits.{BaseBits}
 use Rattle.records.specs.declared.base.Span.{Span}
+use Rattle.records.proofs.Facts.{payload-next}
 use Rattle.records.proofs.Table.{initial-base-walks, additional-base-walks}
 use Rattle.clip.proofs.Facts.{items-end}
 use Rattle.shown.specs.Held.{Held}
@@ -37,21 +37,13 @@ unfolding size
 base-ends true s at b to e = items-end (4 ∷ base) s at to (ends_as _ _ additional-base-walks s at b to e)
 base-ends false s at b to e = items-end base s at to (ends_as _ _ initial-base-walks s at b to e)
 
-payload-behind : (include_index : Bool) (s : List ℕ) (at : ℕ) (b : BaseBits) (to : ℕ) → base_bits include_index s at ≡ fine b to → b.payload_offset ≡ to
-unfolding base_bits
-payload-behind include_index s at b to e =
-    let index = came (index_bits include_index s at) _ b to e in
-    let links = came (u32x3 s index.at) _ b to index.rest in
-    let last : links.at ≡ to = cc in
-    sym (ap (λ (v : BaseBits). v.payload_offset) (same-value links.rest)) ∙ last
-
 -- A record whose fields behind the base are read by `rest`, which keeps the base.
 module _ {Bits : Type 0} (s : List ℕ) (rest : BaseBits → Reader Bits) (base-of : Bits → BaseBits) (keeps : (b : BaseBits) (i : ℕ) (v : Bits) (next : ℕ) → rest b s i ≡ fine v next → b ≡ base-of v) where
   pub payload-at : (include_index : Bool) (at : ℕ) (v : Bits) (to : ℕ) → ◌>>=◌ (base_bits include_index) rest s at ≡ fine v to → (base-of v).payload_offset ≡ at + front include_index
   payload-at include_index at v to e =
       let b = came (base_bits include_index s at) _ v to e in
       sym (ap (λ (v : BaseBits). v.payload_offset) (keeps b.value b.at v to b.rest))
-      ∙ payload-behind include_index s at b.value b.at b.first
+      ∙ payload-next include_index s at b.value b.at b.first
       ∙ base-ends include_index s at b.value b.at b.first
 
 -- What is read ends within the bytes.

@@ -8,7 +8,7 @@ use Rattle.layout.specs.Walk.{fine, Reader, answered}
 use Rattle.records.specs.Base.{base_of, span_of}
 use Rattle.records.specs.Keyframes.{bone_of, morph_of}
 use Rattle.records.specs.declared.base.BaseBits.{BaseBits}
-use Rattle.records.specs.declared.base.KeyframeIndex.{KeyframeIndex}
+use Rattle.std.specs.Prelude.{Some, None}
 use Rattle.records.specs.declared.base.PmmDocumentBaseKeyframeSummary.{PmmDocumentBaseKeyframeSummary}
 use Rattle.records.specs.declared.bone.PmmDocumentBoneKeyframeSummary.{PmmDocumentBoneKeyframeSummary}
 use Rattle.records.specs.declared.morph.PmmDocumentMorphKeyframeSummary.{PmmDocumentMorphKeyframeSummary}
@@ -28,13 +28,13 @@ use Rattle.shown.proofs.Whole.{list-stands}
 
 -- The base of an additional record; that of an initial one, whose index is none and whose previous link no build takes.
 pub record Based {B : Type 0} (b : PmmDocumentBaseKeyframeSummary) (r : Additional B) : Type 0 where
-  pub index : b.index ≡ KeyframeIndex.At (signed r.index)
+  pub index : b.index ≡ Some (signed r.index)
   pub frame : b.frame_index ≡ signed r.frame
   pub previous : b.previous_keyframe_index ≡ signed r.previous
   pub next : b.next_keyframe_index ≡ signed r.next
 
 pub record BasedInitial {B : Type 0} (b : PmmDocumentBaseKeyframeSummary) (r : Initial B) : Type 0 where
-  pub index : b.index ≡ KeyframeIndex.Absent
+  pub index : b.index ≡ None
   pub frame : b.frame_index ≡ signed r.frame
   pub next : b.next_keyframe_index ≡ signed r.next
 
@@ -42,7 +42,7 @@ based : {B : Type 0} (r : Additional B) (v : BaseBits) → AdditionalShown r v �
 unfolding base_of
 based r v shown =
     record {
-      index = ap (λ (n : ℕ). KeyframeIndex.At (signed n)) (sym shown.index);
+      index = ap (λ (n : ℕ). Some (signed n)) (sym shown.index);
       frame = ap signed (sym shown.frame);
       previous = ap signed (sym shown.previous);
       next = ap signed (sym shown.next);

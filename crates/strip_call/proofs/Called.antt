@@ -13,9 +13,8 @@ use Rattle.layout.specs.Walk.{refusal, fine, refused}
 use Rattle.binary.specs.Answers.{because}
 use Rattle.section.specs.Limits.{edition1}
 use Rattle.section.specs.Model.{model_section}
-use Rattle.section.specs.Answers.{model_read}
 use Rattle.section.specs.declared.model.Model.{Model}
-use Rattle.section.specs.declared.model.ReadModel.{ReadModel}
+use Rattle.binary.specs.declared.refusal.Refusal.{Refusal}
 use Rattle.clip.specs.Section.{records_at, bones, morphs, clip_refusal}
 use Rattle.clip.proofs.First.{none_or}
 use Rattle.clip.proofs.Facts.{blocks}
@@ -93,19 +92,17 @@ module _ {s : List ℕ} {m : Model} (w : WasRead s m) {bb mb : Block} (eb : bb �
         same_outcome s m first second output (bb.records.count + mb.records.count) ∙ ap (λ (k : Block). outcome_of first second output (bb.records.count + mb.records.count) (parts_of s k (morph_block m))) (sym eb) ∙ ap (λ (k : Block). outcome_of first second output (bb.records.count + mb.records.count) (parts_of s bb k)) (sym em) in
         subst (λ (x : Outcome). Says x r first' second' output') (sym (o ∙ parts)) says
 
-module _ (s : List ℕ) (start : ℕ) (first second output : List ℕ) (a : ReadModel) (contract : model_read a ≡ model_section edition1 s start) where
-  pub not-read : (why : _) → a ≡ ReadModel.Refused why → Says (strip_call edition1 count_width s start first second output) (Err (StripRefusal.Reading why)) first second output
+module _ (s : List ℕ) (start : ℕ) (first second output : List ℕ) where
+  pub not-read : (why : Refusal) → refused (because why) ≡ model_section edition1 s start → Says (strip_call edition1 count_width s start first second output) (Err (StripRefusal.Reading why)) first second output
   unfolding strip_call
-  not-read why seen =
-      let walk : model_section edition1 s start ≡ refused (because why) = sym contract ∙ ap model_read seen in
+  not-read why read =
+      let walk = sym read in
       record { answers = rw walk; leaves_first = rw walk; leaves_second = rw walk; leaves_output = rw walk }
 
-  module _ (m : Model) (end : ℕ) (seen : a ≡ ReadModel.Read m end) where
+  module _ (m : Model) (end : ℕ) (read : fine m end ≡ model_section edition1 s start) where
     pub was_read : WasRead s m
-    was_read = record { start = start; end = end; reads = sym contract ∙ ap model_read seen }
+    was_read = record { start = start; end = end; reads = sym read }
 
     pub read-says : (r : Result Told StripRefusal) (first' second' output' : List ℕ) → Says (slices_tested first second output count_width s m ((bones s m).additional + (morphs s m).additional)) r first' second' output' → Says (strip_call edition1 count_width s start first second output) r first' second' output'
     unfolding strip_call
-    read-says r first' second' output' says =
-        let walk : model_section edition1 s start ≡ fine m end = sym contract ∙ ap model_read seen in
-        rw walk says
+    read-says r first' second' output' says = rw (← read) says

@@ -3,8 +3,7 @@ ghost use Rattle.std.specs.Prelude.{◌≡◌};
 ghost use Rattle.chains.specs.Block.{kind_of};
 ghost use Rattle.chains.specs.Fault.{fault_of};
 
-use crate::number;
-use binary::counts::Refusal;
+use binary::refusal::Refusal;
 use chains::block::{Block, Kind};
 use chains::fault::Fault;
 
@@ -33,6 +32,16 @@ pub enum StripRefusal {
     OutputTooShort(usize),
 }
 
+impl From<Refusal> for StripRefusal {
+    ghost use Rattle.strip_call.specs.declared.answer.StripRefusal.TheVariants.{Reading};
+
+    ghost from_gives = { λ why refusal. refusal ≡ Reading why };
+
+    fn from(why: Refusal) -> StripRefusal {
+        StripRefusal::Reading(why)
+    }
+}
+
 impl StripRefusal {
     ghost use Rattle.strip_call.specs.Answers.{refusal_read};
 
@@ -51,7 +60,7 @@ impl StripRefusal {
         ensures { result ≡ (refusal_read self).number }
     {
         match self {
-            StripRefusal::Reading(why) => number::reading_number(why),
+            StripRefusal::Reading(why) => why.number(),
             StripRefusal::Bones(_, fault) => fault.number(),
             StripRefusal::Morphs(_, fault) => fault.number(),
             StripRefusal::WorkTooShort(_) => 17,

@@ -14,7 +14,7 @@ use chains::block::{Kind, Records};
 use chains::chain::Chains;
 use chains::lookup::Indexed;
 use section::model;
-use section::model::{Model, ReadModel};
+use section::model::Model;
 
 // The clip is built, and its strip written. A refusal leaves the work slices as the build left them.
 fn build_and_write<'a>(
@@ -115,8 +115,6 @@ pub fn strip(
 ) -> Result<Built, StripRefusal>
     ensures { Says (strip_call edition1 count_width section.now start first.old second.old output.old) result first.new second.new output.new }
 {
-    match model::read_model(section, start) {
-        ReadModel::Refused(why) => Err(StripRefusal::Reading(why)),
-        ReadModel::Read(m, _) => strip_model(section, &m, first, second, output),
-    }
+    let (m, _) = model::read_model(section, start)?;
+    strip_model(section, &m, first, second, output)
 }

@@ -8,4 +8,3 @@ mod build;
 pub mod call;
 mod clip;
 mod clip_build;
-pub mod number;

@@ -10,7 +10,7 @@ ghost use Rattle.chains.specs.Block.{kind_of};
 ghost use Rattle.chains.specs.Fault.{fault_of};
 
 use crate::values;
-use binary::counts::Refusal;
+use binary::refusal::Refusal;
 use chains::block::Kind;
 use chains::fault::Fault;
 use numbers::put;
@@ -37,7 +37,7 @@ fn refused(numbers: &mut [u64], why: StripRefusal) -> u32
         StripRefusal::Bones(count, fault) => not_built(numbers, Kind::Bone, count, fault),
         StripRefusal::Morphs(count, fault) => not_built(numbers, Kind::Morph, count, fault),
         StripRefusal::WorkTooShort(places) | StripRefusal::OutputTooShort(places) => {
-            put::put_numbers(numbers, 0, &[places as u64]);
+            put::put(numbers, 0, &[places as u64]);
             u32::from(why.number())
         }
     }

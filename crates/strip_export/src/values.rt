@@ -35,16 +35,16 @@ pub fn put_fault(values: &mut [u64], kind: Kind, count: usize, fault: Fault)
     let kind = kind_number(kind);
     match fault {
         Fault::NegativeIndex(index) | Fault::RepeatedIndex(index) => {
-            put::put_numbers(values, 0, &[kind, pattern(index)]);
+            put::put(values, 0, &[kind, pattern(index)]);
         }
         Fault::IndexBelowCount(index) => {
-            put::put_numbers(values, 0, &[kind, pattern(index), count as u64]);
+            put::put(values, 0, &[kind, pattern(index), count as u64]);
         }
         Fault::Missing(track, bits)
         | Fault::Cycle(track, bits)
         | Fault::NegativeFrame(track, bits)
         | Fault::RepeatedFrame(track, bits) => {
-            put::put_numbers(values, 0, &[kind, track as u64, pattern(bits)]);
+            put::put(values, 0, &[kind, track as u64, pattern(bits)]);
         }
         Fault::Wrong(track, link, found, expected) => {
             let numbers = [
@@ -54,16 +54,16 @@ pub fn put_fault(values: &mut [u64], kind: Kind, count: usize, fault: Fault)
                 pattern(found),
                 pattern(expected),
             ];
-            put::put_numbers(values, 0, &numbers);
+            put::put(values, 0, &numbers);
         }
         Fault::Translation(bone, frame) | Fault::Orientation(bone, frame) => {
-            put::put_numbers(values, 0, &[bone.0 as u64, pattern(frame)]);
+            put::put(values, 0, &[bone.0 as u64, pattern(frame)]);
         }
         Fault::Weight(morph, frame) => {
-            put::put_numbers(values, 0, &[morph.0 as u64, pattern(frame)]);
+            put::put(values, 0, &[morph.0 as u64, pattern(frame)]);
         }
         Fault::Disconnected(records) => {
-            put::put_numbers(values, 0, &[kind, records as u64]);
+            put::put(values, 0, &[kind, records as u64]);
         }
     }
 }
@@ -76,5 +76,5 @@ pub fn put_built(values: &mut [u64], built: Built)
         built.reached as u64,
         built.loose as u64,
     ];
-    put::put_numbers(values, 0, &numbers);
+    put::put(values, 0, &numbers);
 }

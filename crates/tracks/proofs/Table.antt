@@ -6,9 +6,9 @@ use lib.ListN.{replicate}
 use Rattle.layout.specs.Walk.{block, bool, u32}
 use Rattle.layout.specs.Records.{base, initial, additional, camera, light}
 use Rattle.layout.proofs.Walks.{Walks, walks-give, walks-item, walks-then, walks-bool, walks-u32}
-use Rattle.binary.specs.Groups.{u32x3}
+use Rattle.binary.specs.Groups.{u32s}
 use Rattle.records.specs.Base.{base_bits}
-use Rattle.records.proofs.Table.{u32x3-walks, initial-base-walks, additional-base-walks}
+use Rattle.records.proofs.Table.{u32s-walks, initial-base-walks, additional-base-walks}
 use Rattle.tracks.specs.Camera.{view_bits, lens_bits, camera_bits}
 use Rattle.tracks.specs.Light.{light_bits}
 
@@ -16,8 +16,8 @@ view-walks : Walks view_bits (replicate 9 4)
 unfolding view_bits
 view-walks =
     walks-then u32 _ (4 ∷ []) (replicate 8 4) walks-u32
-    (λ d. walks-then u32x3 _ (replicate 3 4) (replicate 5 4) u32x3-walks
-    (λ l. walks-then u32x3 _ (replicate 3 4) (replicate 2 4) u32x3-walks
+    (λ d. walks-then (u32s 3) _ (replicate 3 4) (replicate 5 4) (u32s-walks 3)
+    (λ l. walks-then (u32s 3) _ (replicate 3 4) (replicate 2 4) (u32s-walks 3)
     (λ a. walks-then u32 _ (4 ∷ []) (4 ∷ []) walks-u32 (λ m. walks-then u32 _ (4 ∷ []) [] walks-u32 (λ b. walks-give _)))))
 
 lens-walks : Walks lens_bits (24 ∷ 1 ∷ 4 ∷ 1 ∷ [])
@@ -40,8 +40,8 @@ module _ (include_index : Bool) (front : List ℕ) (front-walks : Walks (base_bi
   unfolding light_bits
   light-walks =
       walks-then (base_bits include_index) _ front light front-walks
-      (λ b. walks-then u32x3 _ (replicate 3 4) (replicate 3 4 ++ 1 ∷ []) u32x3-walks
-      (λ c. walks-then u32x3 _ (replicate 3 4) (1 ∷ []) u32x3-walks (λ d. walks-then bool _ (1 ∷ []) [] walks-bool (λ e. walks-give _))))
+      (λ b. walks-then (u32s 3) _ (replicate 3 4) (replicate 3 4 ++ 1 ∷ []) (u32s-walks 3)
+      (λ c. walks-then (u32s 3) _ (replicate 3 4) (1 ∷ []) (u32s-walks 3) (λ d. walks-then bool _ (1 ∷ []) [] walks-bool (λ e. walks-give _))))
 
 pub cameras-walk : Walks (camera_bits false) (initial camera) × Walks (camera_bits true) (additional camera)
 cameras-walk = (camera-walks false base initial-base-walks, camera-walks true (4 ∷ base) additional-base-walks)

@@ -6,7 +6,7 @@ use Rattle.std.specs.Int.{w32}
 use Rattle.std.proofs.Common.{to_z}
 use Rattle.layout.specs.Walk.{Reader, ◌>>=◌, ◌>>◌, give, u32, bool, block, Answer, answered, declined, entry_of}
 use Rattle.layout.specs.Records.{camera, size}
-use Rattle.binary.specs.Groups.{u32x3}
+use Rattle.binary.specs.Groups.{u32s}
 use Rattle.records.specs.Base.{base_bits, base_of, span_of}
 use Rattle.section.specs.Limits.{Limits}
 use Rattle.tracks.specs.Track.{locate}
@@ -22,8 +22,8 @@ use Rattle.tracks.specs.declared.camera.CameraKeyframeSummary.{CameraKeyframeSum
 unfoldable pub view_bits : Reader ViewBits
 view_bits = do
   distance ← u32
-  look ← u32x3
-  angle ← u32x3
+  look ← u32s 3
+  angle ← u32s 3
   model ← u32
   bone ← u32
   give (record { distance = distance; look_at = look; angle = angle; parent_model = model; parent_bone = bone })

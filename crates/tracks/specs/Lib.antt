@@ -2,4 +2,3 @@ pub mod Track
 pub mod Vector
 pub mod Camera
 pub mod Light
-pub mod Answers

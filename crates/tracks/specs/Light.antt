@@ -2,7 +2,7 @@
 use Rattle.std.specs.Prelude.{ℕ, ◌-◌, Bool, List, drop}
 use Rattle.layout.specs.Walk.{Reader, ◌>>=◌, give, bool, Answer, entry_of}
 use Rattle.layout.specs.Records.{light, size}
-use Rattle.binary.specs.Groups.{u32x3}
+use Rattle.binary.specs.Groups.{u32s}
 use Rattle.records.specs.Base.{base_bits, base_of, span_of}
 use Rattle.section.specs.Limits.{Limits}
 use Rattle.tracks.specs.Track.{locate}
@@ -15,8 +15,8 @@ use Rattle.tracks.specs.declared.light.LightKeyframeSummary.{LightKeyframeSummar
 unfoldable pub light_bits : Bool → Reader LightBits
 light_bits include_index = do
   base ← base_bits include_index
-  color ← u32x3
-  direction ← u32x3
+  color ← u32s 3
+  direction ← u32s 3
   selected ← bool
   give (record { base = base; color = color; direction = direction; selected = selected })
 

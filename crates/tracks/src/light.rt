@@ -1,40 +1,29 @@
 // Light records by number.
 ghost use Rattle.std.specs.Prelude.{◌≡◌};
-ghost use Rattle.section.specs.Limits.{edition1};
-ghost use Rattle.lists.specs.Parts.{payload_or};
+ghost use Rattle.binary.specs.Answers.{read};
 ghost use Rattle.tracks.specs.Light.{light_bits, light_of, light_keyframe};
-ghost use Rattle.tracks.specs.Answers.{light_read, light_keyframe_read};
 
-use crate::track::{Kind, Located};
-use crate::vector::Vector;
+use crate::track::Kind;
 use crate::{track, vector};
-use binary::counts::Refusal;
-use binary::groups::{Bits3, ReadBits3};
-use binary::numbers::ReadBool;
+use binary::refusal::{Read, Refusal};
 use binary::{groups, numbers};
-use lists::parts;
+use lists::keyframe::Keyframe;
 use records::base;
-use records::base::{BaseBits, PmmDocumentBaseKeyframeSummary, ReadBase, Span};
+use records::base::{BaseBits, PmmDocumentBaseKeyframeSummary, Span};
 
 #[derive(Clone, Copy)]
 pub struct LightBits {
     pub base: BaseBits,
-    pub color: Bits3,
-    pub direction: Bits3,
+    pub color: [u32; 3],
+    pub direction: [u32; 3],
     pub selected: bool,
-}
-
-#[derive(Clone, Copy)]
-pub enum ReadLight {
-    Read(LightBits, usize),
-    Short(usize),
 }
 
 #[derive(Clone, Copy)]
 pub struct LightKeyframeSummary {
     pub base: PmmDocumentBaseKeyframeSummary,
-    pub color: Vector,
-    pub direction: Vector,
+    pub color: [f32; 3],
+    pub direction: [f32; 3],
     pub selected: bool,
     pub color_offset: usize,
     pub color_byte_length: usize,
@@ -44,97 +33,61 @@ pub struct LightKeyframeSummary {
     pub span: Span,
 }
 
-#[derive(Clone, Copy)]
-pub enum LightKeyframe {
-    Read(LightKeyframeSummary),
-    Refused(Refusal),
-}
-
-fn read_light(s: &[u8], at: usize, include_index: bool) -> ReadLight
-    ensures { light_read result ≡ light_bits include_index s.now at }
+#[tactic(auto, unfolding(crate::specs::Light::light_bits))]
+fn read_light(s: &[u8], at: usize, include_index: bool) -> Read<LightBits>
+    ensures { read result ≡ light_bits include_index s.now at }
 {
-    match base::read_base(s, at, include_index) {
-        ReadBase::Short(place) => ReadLight::Short(place),
-        ReadBase::Read(base, at) => match groups::read_u32x3_le(s, at) {
-            ReadBits3::Short(place) => ReadLight::Short(place),
-            ReadBits3::Value(color, at) => match groups::read_u32x3_le(s, at) {
-                ReadBits3::Short(place) => ReadLight::Short(place),
-                ReadBits3::Value(direction, at) => match numbers::read_bool(s, at) {
-                    ReadBool::Short(place) => ReadLight::Short(place),
-                    ReadBool::Value(selected, next) => ReadLight::Read(
-                        LightBits {
-                            base,
-                            color,
-                            direction,
-                            selected,
-                        },
-                        next,
-                    ),
-                },
-            },
-        },
-    }
-}
-
-fn light_summary(
-    bits: LightBits,
-    include_index: bool,
-    offset: usize,
-    end: usize,
-) -> LightKeyframeSummary
-    ensures { result ≡ light_of include_index bits offset end }
-{
-    let base_bits = bits.base;
-    let base = base::base_summary(base_bits, include_index);
-    let color = vector::vector_of(bits.color);
-    let direction = vector::vector_of(bits.direction);
-    let span = base::record_span(offset, base_bits.payload_offset, end);
-    LightKeyframeSummary {
+    let (base, at) = base::read_base(s, at, include_index)?;
+    let (color, at) = groups::read_u32s_le(s, at)?;
+    let (direction, at) = groups::read_u32s_le(s, at)?;
+    let (selected, next) = numbers::read_bool(s, at)?;
+    let bits = LightBits {
         base,
         color,
         direction,
-        selected: bits.selected,
-        color_offset: base::distance(25, end),
-        color_byte_length: 12,
-        direction_offset: base::distance(13, end),
-        direction_byte_length: 12,
-        selected_offset: base::distance(1, end),
-        span,
+        selected,
+    };
+    Ok((bits, next))
+}
+
+impl LightBits {
+    #[tactic(auto, unfolding(crate::specs::Light::light_of, layout::specs::Records::size))]
+    fn summary(self, include_index: bool, offset: usize, end: usize) -> LightKeyframeSummary
+        ensures { result ≡ light_of include_index self offset end }
+    {
+        LightKeyframeSummary {
+            base: self.base.summary(include_index),
+            color: vector::vector_of(self.color),
+            direction: vector::vector_of(self.direction),
+            selected: self.selected,
+            color_offset: end.saturating_sub(25),
+            color_byte_length: 12,
+            direction_offset: end.saturating_sub(13),
+            direction_byte_length: 12,
+            selected_offset: end.saturating_sub(1),
+            span: Span::new(offset, self.base.payload_offset, end),
+        }
     }
 }
 
-pub fn light_keyframe(
-    section: &[u8],
-    start: usize,
-    include_index: bool,
-    number: usize,
-) -> LightKeyframe
-    ensures { light_keyframe_read result ≡ light_keyframe edition1 include_index number section.now start }
-{
-    match track::locate(section, start, Kind::Light, include_index, number) {
-        Located::Refused(why) => LightKeyframe::Refused(why),
-        Located::At(_, at) => match read_light(section, at, include_index) {
-            ReadLight::Short(place) => LightKeyframe::Refused(Refusal::TooShort(place)),
-            ReadLight::Read(b, end) => LightKeyframe::Read(light_summary(
-                b,
-                include_index,
-                at,
-                end,
-            )),
-        },
-    }
-}
+impl Keyframe for LightKeyframeSummary {
+    ghost answer_of = { light_keyframe };
 
-// The payload; empty where `light_keyframe` with the same inputs refuses.
-pub fn light_payload(section: &[u8], start: usize, include_index: bool, number: usize) -> &[u8]
-    ensures { result.now ≡ payload_or (λ b. b.span) (light_keyframe edition1 include_index number section.now start) section.now }
-{
-    match light_keyframe(section, start, include_index, number) {
-        LightKeyframe::Refused(_) => &section[..0],
-        LightKeyframe::Read(b) => parts::part(
-            section,
-            b.span.payload_offset,
-            b.span.payload_byte_length,
-        ),
+    ghost span_of = { λ l. l.span };
+
+    #[tactic(auto, unfolding(layout::specs::Walk::entry_of))]
+    fn read(
+        section: &[u8],
+        start: usize,
+        include_index: bool,
+        number: usize,
+    ) -> Result<LightKeyframeSummary, Refusal> {
+        let (_, at) = track::locate(section, start, Kind::Light, include_index, number)?;
+        let (bits, end) = read_light(section, at, include_index)?;
+        Ok(bits.summary(include_index, at, end))
+    }
+
+    fn span(self) -> Span {
+        self.span
     }
 }

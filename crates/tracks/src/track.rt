@@ -1,24 +1,20 @@
 // A camera or light section: initial record, count, additional records, a skipped block of state.
 ghost use Rattle.std.specs.Prelude.{◌≡◌};
-ghost use Rattle.section.specs.Limits.{edition1};
-ghost use Rattle.section.specs.Answers.{keyframes_read};
-ghost use Rattle.section.specs.Model.{keyframes as keyframes_of};
-ghost use Rattle.layout.specs.Walk.{unlimited, block};
-ghost use Rattle.binary.specs.Answers.{skipped};
+ghost use Rattle.layout.specs.Walk.{unlimited};
 ghost use Rattle.layout.specs.Records.{initial, additional};
-ghost use Rattle.lists.specs.Answers.{entry_read};
+ghost use Rattle.binary.specs.Answers.{read, skipped, said};
+ghost use Rattle.section.specs.Limits.{edition1};
+ghost use Rattle.section.specs.Model.{keyframes as keyframes_of};
 ghost use Rattle.lists.specs.Lists.{entry_at};
 ghost use Rattle.tracks.specs.Track.{items_of, state_of, track_parts, track_section, track_entries, track_of, track_summary, locate as locate_of};
 ghost use Rattle.tracks.specs.declared.track.Kind.{Kind};
-ghost use Rattle.tracks.specs.Answers.{track_read, track_summary_read, located_read};
 
 use crate::items;
-use binary::counts::Refusal;
 use binary::numbers;
-use binary::numbers::Skipped;
-use lists::lists::{Entries, ReadEntry};
+use binary::refusal::{Read, Refusal};
+use lists::lists::Entries;
 use section::keyframes;
-use section::keyframes::{Keyframes, ReadKeyframes};
+use section::keyframes::Keyframes;
 
 #[derive(Clone, Copy)]
 pub enum Kind {
@@ -30,12 +26,6 @@ pub enum Kind {
 pub struct Track {
     pub keyframes: Keyframes,
     pub state_offset: usize,
-}
-
-#[derive(Clone, Copy)]
-pub enum ReadTrack {
-    Read(Track, usize),
-    Refused(Refusal),
 }
 
 // The Rust's summary of a camera or light section; its records are answered by number.
@@ -52,19 +42,6 @@ pub struct PmmDocumentTrackSummary {
     pub state_end_offset: usize,
 }
 
-#[derive(Clone, Copy)]
-pub enum TrackSummary {
-    Read(PmmDocumentTrackSummary),
-    Refused(Refusal),
-}
-
-// The section, and the offset of a record of it.
-#[derive(Clone, Copy)]
-pub enum Located {
-    At(Track, usize),
-    Refused(Refusal),
-}
-
 fn state_size(kind: Kind) -> usize
     ensures { result ≡ state_of kind }
 {
@@ -74,47 +51,38 @@ fn state_size(kind: Kind) -> usize
     }
 }
 
-fn read_records(s: &[u8], at: usize, kind: Kind) -> ReadKeyframes
-    ensures { keyframes_read result ≡ keyframes_of 1 (initial (items_of kind)) (additional (items_of kind)) unlimited s.now at }
+fn read_records(s: &[u8], at: usize, kind: Kind) -> Read<Keyframes>
+    ensures { read result ≡ keyframes_of 1 (initial (items_of kind)) (additional (items_of kind)) unlimited s.now at }
 {
     let initial_items = items::record_items(kind, 2);
     let additional_items = items::record_items(kind, 3);
-    keyframes::read_keyframes(s, at, 1, initial_items, additional_items, 2147483647)
+    keyframes::read_keyframes(s, at, 1, &initial_items, &additional_items, 2147483647)
 }
 
-fn skip_state(s: &[u8], at: usize, kind: Kind) -> Skipped
-    ensures { skipped result ≡ block (state_of kind) s.now at }
+#[tactic(auto, unfolding(crate::specs::Track::track_parts))]
+fn read_parts(s: &[u8], start: usize, kind: Kind) -> Read<Track>
+    ensures { read result ≡ track_parts kind s.now start }
 {
-    numbers::skip(s, at, state_size(kind))
+    let (keyframes, state_offset) = read_records(s, start, kind)?;
+    let next = numbers::skip(s, state_offset, state_size(kind))?;
+    let track = Track {
+        keyframes,
+        state_offset,
+    };
+    Ok((track, next))
 }
 
-fn read_parts(s: &[u8], start: usize, kind: Kind) -> ReadTrack
-    ensures { track_read result ≡ track_parts kind s.now start }
-{
-    match read_records(s, start, kind) {
-        ReadKeyframes::Refused(why) => ReadTrack::Refused(why),
-        ReadKeyframes::Read(keyframes, state_offset) => match skip_state(s, state_offset, kind) {
-            Skipped::Short(place) => ReadTrack::Refused(Refusal::TooShort(place)),
-            Skipped::To(next) => ReadTrack::Read(
-                Track {
-                    keyframes,
-                    state_offset,
-                },
-                next,
-            ),
-        },
-    }
-}
-
-pub fn read_track(s: &[u8], start: usize, kind: Kind) -> ReadTrack
-    ensures { track_read result ≡ track_section edition1 kind s.now start }
+#[tactic(auto, unfolding(crate::specs::Track::track_section))]
+pub fn read_track(s: &[u8], start: usize, kind: Kind) -> Read<Track>
+    ensures { read result ≡ track_section edition1 kind s.now start }
 {
     if 16777215 < s.len() {
-        return ReadTrack::Refused(Refusal::TooLong);
+        return Err(Refusal::TooLong);
     }
     read_parts(s, start, kind)
 }
 
+#[tactic(auto, unfolding(crate::specs::Track::track_of))]
 fn summary(offset: usize, t: Track, offset_end: usize) -> PmmDocumentTrackSummary
     ensures { result ≡ track_of offset t offset_end }
 {
@@ -132,70 +100,58 @@ fn summary(offset: usize, t: Track, offset_end: usize) -> PmmDocumentTrackSummar
     }
 }
 
-fn read_summary(section: &[u8], start: usize, kind: Kind) -> TrackSummary
-    ensures { track_summary_read result ≡ track_summary edition1 kind section.now start }
+// Of a camera or a light section.
+#[tactic(auto, unfolding(crate::specs::Track::track_summary))]
+pub fn read_document_track_summary(
+    section: &[u8],
+    start: usize,
+    kind: Kind,
+) -> Result<PmmDocumentTrackSummary, Refusal>
+    ensures { said result ≡ track_summary edition1 kind section.now start }
 {
-    match read_track(section, start, kind) {
-        ReadTrack::Refused(why) => TrackSummary::Refused(why),
-        ReadTrack::Read(t, end) => TrackSummary::Read(summary(start, t, end)),
-    }
+    let (t, end) = read_track(section, start, kind)?;
+    Ok(summary(start, t, end))
 }
 
-pub fn read_document_camera_summary(section: &[u8], start: usize) -> TrackSummary
-    ensures { track_summary_read result ≡ track_summary edition1 Kind.Camera section.now start }
-{
-    read_summary(section, start, Kind::Camera)
-}
-
-pub fn read_document_light_summary(section: &[u8], start: usize) -> TrackSummary
-    ensures { track_summary_read result ≡ track_summary edition1 Kind.Light section.now start }
-{
-    read_summary(section, start, Kind::Light)
-}
-
-fn entry(s: &[u8], t: Track, kind: Kind, include_index: bool, number: usize) -> ReadEntry
-    ensures { entry_read result ≡ entry_at (track_entries kind include_index t) number s.now }
+#[tactic(auto, unfolding(crate::specs::Track::track_entries))]
+fn entry(
+    s: &[u8],
+    t: Track,
+    kind: Kind,
+    include_index: bool,
+    number: usize,
+) -> Result<usize, Refusal>
+    ensures { skipped result ≡ entry_at (track_entries kind include_index t) number s.now }
 {
     let keyframes = t.keyframes;
-    if include_index {
-        let items = items::record_items(kind, 3);
-        lists::lists::entry(
-            s,
-            Entries {
-                count: keyframes.count,
-                offset: keyframes.offset,
-                items,
-            },
-            number,
-        )
+    let entries = if include_index {
+        Entries {
+            count: keyframes.count,
+            offset: keyframes.offset,
+            items: items::record_items(kind, 3),
+        }
     } else {
-        let items = items::record_items(kind, 2);
-        lists::lists::entry(
-            s,
-            Entries {
-                count: 1,
-                offset: keyframes.initial_offset,
-                items,
-            },
-            number,
-        )
-    }
+        Entries {
+            count: 1,
+            offset: keyframes.initial_offset,
+            items: items::record_items(kind, 2),
+        }
+    };
+    lists::lists::entry(s, &entries, number)
 }
 
+// The section, and the offset of a record of it.
+#[tactic(auto, unfolding(crate::specs::Track::locate))]
 pub(crate) fn locate(
     s: &[u8],
     start: usize,
     kind: Kind,
     include_index: bool,
     number: usize,
-) -> Located
-    ensures { located_read result ≡ locate_of edition1 kind include_index number s.now start }
+) -> Read<Track>
+    ensures { read result ≡ locate_of edition1 kind include_index number s.now start }
 {
-    match read_track(s, start, kind) {
-        ReadTrack::Refused(why) => Located::Refused(why),
-        ReadTrack::Read(t, _) => match entry(s, t, kind, include_index, number) {
-            ReadEntry::Refused(why) => Located::Refused(why),
-            ReadEntry::At(at) => Located::At(t, at),
-        },
-    }
+    let (t, _) = read_track(s, start, kind)?;
+    let at = entry(s, t, kind, include_index, number)?;
+    Ok((t, at))
 }

@@ -3,7 +3,7 @@ use mathlib.Core.Path.{refl}
 use Rattle.numbers.specs.Tracks.{camera_view}
 use Rattle.numbers.specs.Groups.{base, vector}
 use Rattle.numbers.specs.States.{float}
-use Rattle.numbers.proofs.Putting.{behind}
+use Rattle.numbers.proofs.Putting.{behind, same, also}
 use Rattle.numbers.proofs.camera.put_view.Goals as goal
 
 pub returns : goal.returns
@@ -13,6 +13,6 @@ returns c =
     (behind _ _ _ _ _ _ _
     (behind _ _ _ _ _ _ _
     c.put_base.ensures refl
-    c.put_float.ensures) refl
+    (same _ _ _ _ _ c.put.ensures (also _ _ _ _ c.float.ensures refl))) refl
     c.put_vector.ensures) refl
     c.put_vector-2.ensures

@@ -5,7 +5,7 @@ use Rattle.strip_call.proofs.Built.{all_end, tracks-meet, reports}
 use Rattle.strip_call.proofs.build.build_tracks.Goals as goal
 
 pub count-requires-clause-all_end : goal.count-requires-clause-all_end
-count-requires-clause-all_end c = (all_end c.args.indexed.now.records.section.now c.args.indexed.now.records.block c.in-Some.ensures.tracks_marked.passes)
+count-requires-clause-all_end c = all_end c.args.indexed.now.records.section.now c.args.indexed.now.records.block c.in-Some.ensures.tracks_marked.passes
 
 pub returns-in-Some-clause-builds : goal.returns-in-Some-clause-builds
 returns-in-Some-clause-builds c = rw c.report.ensures (reports c.args.indexed.now.records.section.now c.args.indexed.now.records.block _ c.count.ensures c.requires.scans c.in-Some.ensures.tracks_marked.passes _ _ c.args.indexed.now.ordered c.in-Some.ensures.tracks_marked.marks)

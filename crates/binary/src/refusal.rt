@@ -1,0 +1,54 @@
+// Why a call that reads a section gives no result (document 01, "Turned down").
+ghost use Rattle.std.specs.Prelude.{◌≡◌};
+ghost use Rattle.binary.specs.Answers.{because};
+
+use std::error::Error;
+use std::fmt;
+
+// With the offset where there is one.
+#[derive(Clone, Copy, Debug, PartialEq, Eq)]
+pub enum Refusal {
+    // 1: a value does not fit in the bytes left.
+    TooShort(usize),
+    // 2: a count is negative.
+    NegativeCount(usize),
+    // 20: a count is above the limit.
+    CountAboveLimit(usize),
+    // 16: more bytes are lent than the limit.
+    TooLong,
+    // 19: there is no record or name of that number.
+    Absent,
+}
+
+impl Refusal {
+    // Document 01's number.
+    pub fn number(self) -> u8
+        ensures { result ≡ (because self).number }
+    {
+        match self {
+            Refusal::TooShort(_) => 1,
+            Refusal::NegativeCount(_) => 2,
+            Refusal::CountAboveLimit(_) => 20,
+            Refusal::TooLong => 16,
+            Refusal::Absent => 19,
+        }
+    }
+}
+
+// The number, and the offset.
+impl fmt::Display for Refusal {
+    fn fmt<W: fmt::Write>(&self, f: &mut fmt::Formatter<W>) -> fmt::Result {
+        match self {
+            Refusal::TooShort(at) => write!(f, "1 at {at}"),
+            Refusal::NegativeCount(at) => write!(f, "2 at {at}"),
+            Refusal::CountAboveLimit(at) => write!(f, "20 at {at}"),
+            Refusal::TooLong => write!(f, "16"),
+            Refusal::Absent => write!(f, "19"),
+        }
+    }
+}
+
+impl Error for Refusal {}
+
+// What is read at a position, and the position behind it.
+pub type Read<T> = Result<(T, usize), Refusal>;

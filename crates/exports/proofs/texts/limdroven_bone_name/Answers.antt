@@ -1,6 +1,0 @@
--- `limdroven_bone_name` meets its contract. Assumes nothing.
-use Rattle.numbers.proofs.Said.{handed}
-use Rattle.exports.proofs.texts.limdroven_bone_name.Goals as goal
-
-pub returns : goal.returns
-returns c = handed _ _ _ _ _ c.text_part.ensures c.put_part.ensures

@@ -1,0 +1,49 @@
+// Records that are answered by number, whatever their kind.
+ghost use Rattle.std.specs.Prelude.{◌≡◌, ℕ, Bool, List};
+ghost use Rattle.layout.specs.Walk.{Answer};
+ghost use Rattle.binary.specs.Answers.{said};
+ghost use Rattle.section.specs.Limits.{Limits, edition1};
+ghost use Rattle.records.specs.declared.base.Span.{Span};
+ghost use Rattle.lists.specs.Parts.{payload_or};
+
+use crate::parts;
+use binary::refusal::Refusal;
+use records::base::Span;
+
+pub trait Keyframe: Copy {
+    // What document 01 answers of a record of this kind, by its number in a section.
+    ghost answer_of: { Limits → Bool → ℕ → List ℕ → ℕ → Answer Self };
+
+    ghost span_of: { Self → Span };
+
+    // Record `number`: an additional one, which includes an index, or an initial one.
+    fn read(
+        section: &[u8],
+        start: usize,
+        include_index: bool,
+        number: usize,
+    ) -> Result<Self, Refusal>
+        ensures { said result ≡ answer_of edition1 include_index number section.now start };
+
+    // Where the record and its payload stand.
+    fn span(self) -> Span
+        ensures { result ≡ span_of self };
+}
+
+// The payload of a record, as the part of the section that holds it: empty where the record's own call with the same inputs refuses.
+pub fn payload<K: Keyframe>(
+    section: &[u8],
+    start: usize,
+    include_index: bool,
+    number: usize,
+) -> &[u8]
+    ensures { result.now ≡ payload_or K.span_of (K.answer_of edition1 include_index number section.now start) section.now }
+{
+    match K::read(section, start, include_index, number) {
+        Ok(keyframe) => {
+            let span = keyframe.span();
+            parts::part(section, span.payload_offset, span.payload_byte_length)
+        }
+        Err(_) => &section[..0],
+    }
+}

@@ -1,0 +1,17 @@
+-- `put` meets its contract: each group is written behind the one before it. Assumes nothing.
+use mathlib.Core.Path.{refl}
+use Rattle.numbers.specs.Keyframes.{bone, bone_flags}
+use Rattle.numbers.specs.Groups.{base, pose}
+use Rattle.numbers.proofs.Putting.{behind}
+use Rattle.numbers.proofs.keyframes.PmmDocumentBoneKeyframeSummaryNumbers.put.Goals as goal
+
+pub returns : goal.returns
+unfolding bone bone_flags base pose
+returns c =
+    behind _ _ _ _ _ _ _
+    (behind _ _ _ _ _ _ _
+    (behind _ _ _ _ _ _ _
+    c.put_base.ensures refl
+    c.put_pose.ensures) refl
+    c.put_bone_flags.ensures) refl
+    c.put_span.ensures

@@ -1,0 +1,19 @@
+-- `put` meets its contract: each group is written behind the one before it. Assumes nothing.
+use mathlib.Core.Path.{refl}
+use Rattle.numbers.specs.Tracks.{light, light_fields}
+use Rattle.numbers.specs.Groups.{base, vector}
+use Rattle.numbers.proofs.Putting.{behind}
+use Rattle.numbers.proofs.light.LightKeyframeSummaryNumbers.put.Goals as goal
+
+pub returns : goal.returns
+unfolding light light_fields base vector
+returns c =
+    behind _ _ _ _ _ _ _
+    (behind _ _ _ _ _ _ _
+    (behind _ _ _ _ _ _ _
+    (behind _ _ _ _ _ _ _
+    c.put_base.ensures refl
+    c.put_vector.ensures) refl
+    c.put_vector-2.ensures) refl
+    c.put_fields.ensures) refl
+    c.put_span.ensures

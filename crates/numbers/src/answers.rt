@@ -1,0 +1,29 @@
+// An answer as numbers in a slice, or the refusal's number and its values.
+ghost use Rattle.std.specs.Prelude.{◌≡◌, ℕ, List};
+ghost use Rattle.binary.specs.Answers.{said};
+ghost use Rattle.numbers.specs.Put.{put};
+ghost use Rattle.numbers.specs.Answers.{Says};
+
+use crate::refusals;
+use binary::refusal::Refusal;
+
+pub trait Numbers {
+    ghost numbers: { Self → List ℕ };
+
+    // From the slice's first place on, as far as it reaches.
+    fn put(self, values: &mut [u64])
+        ensures { values.new ≡ put 0 (numbers self) values.old };
+}
+
+// 0 where there is an answer.
+pub fn say<T: Numbers>(answer: Result<T, Refusal>, values: &mut [u64]) -> u32
+    ensures { Says T.numbers (said answer) values.old result values.new }
+{
+    match answer {
+        Ok(x) => {
+            x.put(values);
+            0
+        }
+        Err(why) => refusals::refused(values, why),
+    }
+}

@@ -18,13 +18,6 @@ pub fn write_count(output: &mut [u8], place: usize, n: usize)
     fields::put(&bytes[..2], output, place);
 }
 
-pub fn write_u32(output: &mut [u8], place: usize, n: u32)
-    requires { place + 4 ≤ length output.old }
-    ensures { output.new ≡ placed place (little_endian 4 n) output.old }
-{
-    fields::put(&n.to_le_bytes(), output, place);
-}
-
 fn write_head(output: &mut [u8], place: usize, frame: u32, map: u8) -> usize
     requires { Room place (head_bytes frame map) output.old }
     ensures { Wrote place (head_bytes frame map) output.old result output.new }

@@ -23,7 +23,7 @@ pub struct Built {
 }
 
 // A fault of a build is told with the number of its kind's tracks.
-#[derive(Clone, Copy)]
+#[derive(Clone, Copy, Debug, PartialEq, Eq)]
 pub enum StripRefusal {
     Reading(Refusal),
     Bones(usize, Fault),

@@ -57,6 +57,8 @@ impl<'a> Key<'a> {
         }
     }
 
+    // Inlined, so that a key need not stand in memory for the call.
+    #[inline(always)]
     pub fn write(&self, output: &mut [u8], place: usize) -> usize
         requires { Room place (bytes_of self.now) output.old }
         ensures { Wrote place (bytes_of self.now) output.old result output.new }

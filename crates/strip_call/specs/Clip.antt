@@ -1,7 +1,7 @@
 -- The bytes of a clip's strip. Definitions only.
 use Rattle.std.specs.Prelude.{ℕ, List}
 use Rattle.strip_call.specs.Bytes.{strip_bytes}
-use Rattle.strip_call.specs.declared.clip.Clip.{Clip}
+use Rattle.strip_call.specs.declared.clip_bytes.Clip.{Clip}
 
 abbrev pub bytes_of : Clip → List ℕ
 bytes_of c = strip_bytes c.bones.indexed.records.section.now c.bones.indexed.records.block c.morphs.indexed.records.block

@@ -8,7 +8,7 @@ ghost use Rattle.strip_call.specs.Answers.{Says};
 ghost use Rattle.strip_call.specs.Outcomes.{outcome_of, parts_of, Leaves, Strippable, WasRead};
 
 use crate::answer::{Built, StripRefusal};
-use crate::clip::Clip;
+use crate::clip_bytes::Clip;
 use crate::{blocks, clip_build};
 use chains::block::{Kind, Records};
 use chains::chain::Chains;

@@ -6,5 +6,5 @@ pub mod answer;
 mod blocks;
 mod build;
 pub mod call;
-mod clip;
 mod clip_build;
+mod clip_bytes;

@@ -2,7 +2,7 @@
 use native.Mathlib.Omega.{arith}
 use Rattle.writing.proofs.Measuring.{tracks-fit}
 use Rattle.strip_call.proofs.Pieces.{measured}
-use Rattle.strip_call.proofs.clip.Clip.length.Goals as goal
+use Rattle.strip_call.proofs.clip_bytes.Clip.length.Goals as goal
 
 pub overflow_add-result : goal.overflow_add-result
 overflow_add-result c =

@@ -1,7 +1,7 @@
 -- `write` meets its contract. Assumes nothing.
 use native.Mathlib.Omega.{arith}
 use Rattle.strip_call.proofs.Pieces.{measured, second_fits, bones-fit, morphs-fit, all-written}
-use Rattle.strip_call.proofs.clip.Clip.write.Goals as goal
+use Rattle.strip_call.proofs.clip_bytes.Clip.write.Goals as goal
 
 pub write_count-requires : goal.write_count-requires
 write_count-requires c = let all = measured c.args.self.now.bones.indexed.records.section.now c.args.self.now.bones.indexed.records.block c.args.self.now.morphs.indexed.records.block in omega (arith, all, c.requires)

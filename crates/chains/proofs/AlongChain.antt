@@ -17,6 +17,8 @@ use Rattle.clip.proofs.Chained.{Chained, all-below, no-repeats}
 use Rattle.clip.proofs.Follow.{is-chain}
 use Rattle.chains.specs.Block.{kind_of, links}
 use Rattle.chains.specs.Chain.{chain_at, link_to, Ends, Along}
+use Rattle.chains.specs.Lookup.{Ordered}
+use Rattle.chains.specs.Walk.{AllEnd}
 use Rattle.chains.specs.declared.block.Block.{Block}
 
 module _ {B : Type 0} (r : Records B) where
@@ -40,6 +42,10 @@ module _ {B : Type 0} (r : Records B) where
 get_or-append : (ps : List ℕ) (p : ℕ) (qs : List ℕ) → get_or (ps ++ p ∷ qs) (length ps) 0 ≡ p
 get_or-append [] p qs = refl
 get_or-append (q ∷ ps) p qs = get_or-append ps p qs
+
+-- A track of a block whose chains all end.
+pub ending : {s : List ℕ} {b : Block} {slots : List ℕ} {track : ℕ} → Ordered s b slots → AllEnd s b → track < b.initials.count → Ends s b slots track
+ending {track = track} ordered all_end is-track = record { ordered = ordered; is-track = is-track; ends = all_end track is-track }
 
 pub along-starts : (s : List ℕ) (b : Block) (track : ℕ) {link : ℕ} → link ≡ ((links s b).initial track).next → Along s b track 0 link
 along-starts s b track is = record { most = omega arith; linked = is }

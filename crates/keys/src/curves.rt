@@ -30,17 +30,16 @@ impl<'a> BoneBody<'a> {
         let [x, y, z, rotation] = curves::curves_at(self.section, self.at);
         [clamped(x), clamped(y), clamped(z), clamped(rotation)]
     }
+}
 
-    // Whether clamping leaves all four curves as they are. MMD writes no byte above 127.
-    pub fn curves_in_range(&self) -> bool
-        ensures { result ≡ true → map clamped (curves_at self.now.section.now self.now.at) ≡ curves_at self.now.section.now self.now.at }
-    {
-        let s = self.section;
-        let at = self.at;
-        let x = curve_in_range(s, at);
-        let y = curve_in_range(s, at + 4);
-        let z = curve_in_range(s, at + 8);
-        let rotation = curve_in_range(s, at + 12);
-        x & y & z & rotation
-    }
+// Whether clamping leaves all four curves as they are. MMD writes no byte above 127.
+pub fn curves_in_range(s: &[u8], at: usize) -> bool
+    requires { at + 16 ≤ length s.now }
+    ensures { result ≡ true → map clamped (curves_at s.now at) ≡ curves_at s.now at }
+{
+    let x = curve_in_range(s, at);
+    let y = curve_in_range(s, at + 4);
+    let z = curve_in_range(s, at + 8);
+    let rotation = curve_in_range(s, at + 12);
+    x & y & z & rotation
 }

@@ -8,7 +8,7 @@ ghost use Rattle.keys.specs.Placed.{placed, Room, Wrote, head_bytes, curve_bytes
 
 use crate::body::{BoneBody, MorphBody};
 use crate::plain::BonePlain;
-use crate::{fields, plain};
+use crate::{curves, fields, plain};
 
 pub fn write_count(output: &mut [u8], place: usize, n: usize)
     requires { place + 2 ≤ length output.old }
@@ -43,7 +43,7 @@ impl<'a> BoneBody<'a> {
         if plain.curves & plain.rotation {
             return place;
         }
-        if self.curves_in_range() {
+        if curves::curves_in_range(self.section, self.at) {
             return plain.copy_curves(self, output, place);
         }
         plain.write_curves(self.curves(), output, place)

@@ -3,7 +3,8 @@ use Prim.Native.Nat.{ℕ, ◌+◌, ◌*◌, ◌≤◌, ◌<◌}
 use native.Mathlib.Numerals.{add-one}
 use native.Mathlib.Omega.{arith}
 use mathlib.Core.List.{List}
-use mathlib.Core.Path.{◌≡◌, refl, ap, ◌∙◌, subst}
+use mathlib.Core.Option.{some}
+use mathlib.Core.Path.{◌≡◌, refl, sym, ap, ◌∙◌, subst}
 use lib.ListN.{length, replicate}
 use Rattle.clip.specs.Fields.{Records, Kind}
 use Rattle.clip.specs.First.{total}
@@ -16,12 +17,24 @@ use Rattle.marks.proofs.Following.{Ending, few}
 use Rattle.layout.specs.Walk.{answered}
 use Rattle.clip.specs.Chain.{chain}
 use Rattle.chains.specs.Block.{kind_of, links}
-use Rattle.chains.specs.Lookup.{Ordered}
+use Rattle.clip.specs.Scan.{record_of}
+use Rattle.clip.proofs.Indexed.{record_of-found}
+use Rattle.std.specs.Prelude.{Option, Some}
+use Rattle.chains.specs.Lookup.{Ordered, found_read}
+use Rattle.chains.specs.declared.standing.Standing.{Standing}
 use Rattle.chains.specs.declared.block.Block.{Block}
 
 -- A track of a block whose chain ends.
 pub ending : {s : List ℕ} {b : Block} {slots : List ℕ} {track : ℕ} → Ordered s b slots → track < b.initials.count → chain (kind_of b.kind) (links s b) track ≡ answered (chain_of (kind_of b.kind) (links s b) track) → Ending (kind_of b.kind) (links s b) track
 ending ordered is-track ended = record { indexed = ordered.indexed; is-track = is-track; ended = ended }
+
+-- The record that a search found.
+module _ (s : List ℕ) (b : Block) (link p : ℕ) {place : ℕ} {f : Option Standing} (contract : found_read f ≡ record_of (links s b) link) (seen : f ≡ Some (record { position = p; place = place })) where
+  pub found : record_of (links s b) link ≡ some p
+  found = sym contract ∙ ap found_read seen
+
+  pub found-inside : p < b.records.count
+  found-inside = (record_of-found (links s b) link p found).0
 
 module _ {B : Type 0} (kind : Kind) (r : Records B) where
   -- So many links were followed in the tracks before one.

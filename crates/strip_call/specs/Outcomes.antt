@@ -68,14 +68,14 @@ pub record Strippable (bones morphs : Records) (first second : List ℕ) : Type 
       → length (strip_bytes bones.section.now bones.block morphs.block) ≤ length bones.section.now
 
 -- How a build and its strip end: a refusal leaves only those places of the work slices changed.
-pub record Refuses (o : Outcome) (why : StripRefusal) (need : ℕ) (first second output first' second' output' : List ℕ) : Type 0 where
+pub record BuildRefused (o : Outcome) (why : StripRefusal) (need : ℕ) (first second output first' second' output' : List ℕ) : Type 0 where
   pub zeroes : o ≡ zeroed first second output need (refusal_read why)
   pub outside_first : Outside 0 need first first'
   pub outside_second : Outside 0 need second second'
   pub leaves_output : output' ≡ output
 
 abbrev pub Ends : Outcome → ℕ → List ℕ → List ℕ → List ℕ → Result Told StripRefusal → List ℕ → List ℕ → List ℕ → Type 0
-Ends o need first second output (Err why) first' second' output' = Refuses o why need first second output first' second' output'
+Ends o need first second output (Err why) first' second' output' = BuildRefused o why need first second output first' second' output'
 Ends o need first second output (Ok built) first' second' output' = Says o (Ok built) first' second' output'
 
 abbrev pub Leaves : Records → Records → List ℕ → List ℕ → List ℕ → Result Told StripRefusal → List ℕ → List ℕ → List ℕ → Type 0

@@ -26,7 +26,8 @@ use Rattle.chains.specs.Lookup.{Ordered}
 use Rattle.chains.specs.Fault.{met_read}
 use Rattle.track_keys.specs.Keys.{asked_at, key_meets}
 use Rattle.track_keys.specs.Tracks.{meets, tracks_meet, frames_of, left}
-use Rattle.track_keys.specs.Ready.{Keyed}
+use Rattle.track_keys.specs.Ready.{Keyed, Readies}
+use Rattle.track_keys.specs.declared.ready.Keys.{Keys}
 use Rattle.chains.specs.declared.block.Block.{Block}
 use Rattle.chains.specs.declared.fault.Fault.{Fault}
 use Rattle.std.proofs.Common.{Result, Ok}
@@ -51,7 +52,18 @@ pub record Ready-track (s : List ℕ) (b : Block) (slots : List ℕ) (track : �
   pub room : b.records.count ≤ length list
   pub keys : Keyed s b track list n again
 
+-- One that was made ready in a list that was long enough.
+pub ready-track : {s : List ℕ} {b : Block} {slots : List ℕ} {track : ℕ} (before list : List ℕ) {r : Result Keys Fault} {keys : Keys} → Ordered s b slots → track < b.initials.count → b.records.count ≤ length before → length list ≡ length before → Readies s b track list r → r ≡ Ok keys → Ready-track s b slots track list keys.records keys.again
+ready-track {s} {b} {slots} {track} before list ordered is-track wide same readies seen =
+    record { ordered = ordered; is-track = is-track; room = omega (arith, wide, same); keys = subst (λ (k : Result Keys Fault). Readies s b track list k) seen readies }
+
 module _ {s : List ℕ} {b : Block} {slots : List ℕ} {track : ℕ} {list : List ℕ} {n again : ℕ} (k : Ready-track s b slots track list n again) where
+  pub few-keys : n ≤ 65534
+  few-keys = omega (arith, k.keys.many, k.ordered.fits.few_records)
+
+  pub keys-inside : n ≤ length list
+  keys-inside = omega (arith, k.keys.many, k.room)
+
   listed-many : length (take n list) ≡ n
   listed-many = length-take-le n list (omega (arith, k.keys.many, k.room))
 

@@ -32,6 +32,9 @@ fn next_head(file: &mut impl Read) -> io::Result<Option<Head>> {
     }))
 }
 
+// No file here has so many checks; an endless one is left.
+const MOST: u64 = 1000000;
+
 // Makes the checks of the file and counts them. A section that is longer than the space for it ends the file; where the file ends
 // early the places behind keep what they held.
 fn every_check<F: Fn(Section<'_>, &mut Fields<'_>) -> Outcome>(
@@ -43,8 +46,7 @@ fn every_check<F: Fn(Section<'_>, &mut Fields<'_>) -> Outcome>(
     let mut section_space = [0u8; 4096];
     let mut checks_space = [0u8; 65536];
     let mut tally = Tally::default();
-    // No file here has so many sections; an endless one is left.
-    for _ in 0..1000000u64 {
+    for _ in 0..MOST {
         let Some(head) = next_head(file)? else {
             break;
         };
@@ -65,10 +67,13 @@ fn every_check<F: Fn(Section<'_>, &mut Fields<'_>) -> Outcome>(
         // Every section has a check, and a check has a byte or more.
         tally.add(make(section, &mut fields));
         for _ in 0..head.checks_length {
-            if fields.is_empty() {
+            if fields.is_empty() || tally.checks == MOST {
                 break;
             }
             tally.add(make(section, &mut fields));
+        }
+        if tally.checks == MOST {
+            break;
         }
     }
     Ok(tally)

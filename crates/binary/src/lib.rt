@@ -1,5 +1,5 @@
-// Document 01, module 1: the byte reader, as functions of the lent slice and a position. Every position is taken, those past
-// the end too.
+// Document 01, module 1: the byte reader, as functions of the lent slice and a position, both by value ("Forms of the Rust that need
+// another"). Every position is taken, those past the end too.
 #![tactic(auto)]
 
 pub mod blocks;

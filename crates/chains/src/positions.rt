@@ -5,7 +5,8 @@ ghost use Rattle.chains.specs.Chain.{Along};
 use crate::chain::Chain;
 use crate::near::Near;
 
-// A chain followed by its links: the next link, where its record may be found, and how many records were passed.
+// A chain followed by its links: the next link, where its record may be found, and how many records were passed. That number is no index:
+// what is left is the chain without so many records (specs/Positions).
 #[derive(Drop)]
 pub struct Positions<'a> {
     chain: Chain<'a>,

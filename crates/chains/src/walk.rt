@@ -32,6 +32,7 @@ impl<'a> Indexed<'a> {
         let mut expected = track as u32;
         let mut n = 0;
         let mut near = Near::default();
+        // No `positions`: whether the chain ends is found out here, where each link is looked up and tested.
         while link != 0 {
             let Some(at) = indexed.lookup(link, near) else {
                 return Err(Fault::Missing(track, link));

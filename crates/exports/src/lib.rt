@@ -1,5 +1,6 @@
 // The calls of document 01, modules 2 and 7, for C: an answer's numbers are written into a slice of u64, its bytes into a slice of u8,
 // both from place 0 on as far as the slice reaches. include/limdroven.h says what each call writes.
+// C has no type parameters: each call is a function of its own, with its clause.
 #![tactic(auto)]
 
 pub mod interpolation;

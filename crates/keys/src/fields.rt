@@ -1,4 +1,5 @@
-// Bytes written into an output at a place, and so the fields of a key. Each call answers where they end.
+// Bytes written into an output at a place, and so the fields of a key. Each call answers where they end. The output and the place stand
+// beside one another: the room asked is that of each call's bytes, so a struct of the two would carry no fact and take no clause away.
 ghost use Rattle.std.specs.Prelude.{◌≡◌, cond, [], ◌+◌};
 ghost use Rattle.records.specs.Curves.{curves_at};
 ghost use Rattle.keys.specs.Placed.{Room, Wrote, pose_bytes, curve_bytes};

@@ -10,13 +10,16 @@ use crate::parts;
 use binary::refusal::Refusal;
 use records::base::Span;
 
+// Each kind's impl is an entry found, its bits read, its summary made: three calls of its own. A provided `read` over these three would
+// make members of them in each impl, which is longer.
 pub trait Keyframe: Copy {
     // What document 01 answers of a record of this kind, by its number in a section.
     ghost answer_of: { Limits → Bool → ℕ → List ℕ → ℕ → Answer Self };
 
     ghost span_of: { Self → Span };
 
-    // Record `number`: an additional one, which includes an index, or an initial one.
+    // Record `number`: an additional one, which includes an index, or an initial one. The four stand beside one another as in the calls for
+    // C, which hand them on; a struct would be made there to be taken apart here.
     fn read(
         section: &[u8],
         start: usize,

@@ -30,7 +30,8 @@ impl From<[u32; 2]> for PmmDocumentOutsideParentIndexSummary {
     }
 }
 
-// In a section of so many constraints and outside parents.
+// In a section of so many constraints and outside parents. This reader and the next differ in the count, the offset, the items and the
+// reader of one: all but the first call.
 #[tactic(auto, unfolding(crate::specs::ModelLists::flag_bits))]
 fn read_flag(s: &[u8], at: usize, include_index: bool, counts: Counts, number: usize) -> Read<bool>
     ensures { read result ≡ flag_bits include_index counts.constraints counts.parents number s.now at }

@@ -11,6 +11,7 @@ use binary::{groups, numbers};
 use records::states;
 use records::states::{PmmDocumentBoneStateSummary, PmmDocumentOutsideParentStateSummary};
 
+// Four calls of three lines each: a trait with the list and the reader, and four impls of it, would be longer.
 #[tactic(auto, unfolding(layout::specs::Walk::entry_of))]
 pub fn bone_state(
     section: &[u8],

@@ -11,7 +11,8 @@ use crate::counts::Counts;
 use chains::chain::{Chain, Chains};
 use flags::bits;
 
-// The records of one chain, and how many there are.
+// The records of one chain, and how many there are. Counted here: an iterator that is used up does not say how many it gave, and `count`
+// would follow the links once more.
 fn mark_chain(chain: &Chain, marks: &mut [u16]) -> usize
     requires { length marks.old ≡ chain.now.indexed.records.block.records.count }
     ensures marks_after { marks.new ≡ marked (chain.now.track + 1) (chain_at chain.now.indexed.records.section.now chain.now.indexed.records.block chain.now.track) marks.old }

@@ -7,7 +7,7 @@ use mathlib.Core.Path.{◌≡◌, refl, sym, ap, subst, ◌∙◌}
 use borrow.Author.Tests.{ltb-true, ltb-false}
 use lib.Dec.{ltb}
 use lib.ListN.{length, get_or}
-use Rattle.std.specs.Prelude.{Option, Some, None}
+use Rattle.std.specs.Prelude.{Option, Some, None, is_some}
 use Rattle.order.specs.Field.{number_of, Within, AllBelow}
 use Rattle.order.specs.Sorted.{times, Sorted}
 use Rattle.order.specs.Find.{Finds}
@@ -23,6 +23,10 @@ module _ (s : List ℕ) (f : Field) (within : Within s f) (before after : List �
       let found : Finds s f after number (Some i) = subst (Finds s f after number) is finds in
       let at = back s f within before after sorted below once i found.0 in
       (0, suc at.place, omega arith, omega (arith, at.inside), sym (ap (number_of s f) at.is ∙ found.1))
+
+  pub repeats-found : (number : ℕ) (r : Option ℕ) → Finds s f after number r → is_some r ≡ true → Repeats (with_first number s f before) (length before + 1) true
+  repeats-found number (Some i) finds is = repeats-first number (Some i) finds i refl
+  repeats-found number None finds is = absurd (let no : false ≡ true = is in cc)
 
   module _ (number m : ℕ) (pass : LeastBehind s f after f.count m) where
     repeats-later : m < f.count → Repeats (with_first number s f before) (length before + 1) true
@@ -67,3 +71,7 @@ module _ (s : List ℕ) (f : Field) (within : Within s f) (before after : List �
         go : (b : Bool) → ltb m f.count ≡ b → Repeats (with_first number s f before) (length before + 1) b
         go true e = repeats-later (ltb-true m f.count e)
         go false e = repeats-never absent (ltb-false m f.count e)
+
+    pub repeats-absent : (r : Option ℕ) → Finds s f after number r → is_some r ≡ false → Repeats (with_first number s f before) (length before + 1) (ltb m f.count)
+    repeats-absent None finds is = repeats-told None finds refl
+    repeats-absent (Some i) finds is = absurd (let no : true ≡ false = is in cc)

@@ -76,7 +76,7 @@ impl Rising<'_, '_> {
     pub fn find(&self, number: u32) -> Option<usize>
         ensures { Finds self.now.slots.numbers.section.now self.now.slots.numbers.field self.now.slots.positions.now number result }
     {
-        // No `or_else`: its contract says nothing of what the closure answers.
+        // No `or_else`: the check finds both arms alone; of the closure's answer it would need a proof by hand.
         match self.slots.find_consecutive(number) {
             Some(i) => Some(i),
             None => self.find_between(number),

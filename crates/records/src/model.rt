@@ -34,6 +34,7 @@ pub struct PmmDocumentModelKeyframeSummary {
     pub span: Span,
 }
 
+// Two numbers by name, as the table of records has them (layout, the model's C and P).
 #[tactic(auto, unfolding(crate::specs::Keyframes::model_bits))]
 pub fn read_model_record(
     s: &[u8],

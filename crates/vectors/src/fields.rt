@@ -49,6 +49,7 @@ impl<'a> Fields<'a> {
         bytes
     }
 
+    // One line for each width: no trait of std has `from_le_bytes`.
     pub fn u8(&mut self) -> u8
         ensures value { result ≡ from_le_bytes w8 (padded 1 self.old.left.now) }
         ensures rest { self.new.left.now ≡ drop 1 self.old.left.now }

@@ -24,6 +24,7 @@ pub struct Written {
     pub end: usize,
 }
 
+// The records are counted as they are written: the links are followed once.
 pub fn write_records(chain: &Chain, output: &mut [u8], place: usize) -> Written
     requires { Room place (keys_bytes_of chain.now) output.old }
     ensures records_value { result.records ≡ length (records_of chain.now) }

@@ -3,17 +3,16 @@ use Prim.Native.Nat.{ℕ, suc, ◌+◌, ◌-◌, ◌<◌, ◌≤◌, min}
 use mathlib.Core.List.{List, [], ◌∷◌, ◌++◌, append-nil, append_assoc}
 use mathlib.Core.Path.{◌≡◌, refl, sym, ap, ◌∙◌}
 use native.Mathlib.Nat.{add-zero, add-suc, suc-add}
-use native.Mathlib.Numerals.{add-one}
 use native.Mathlib.Omega.{arith}
 use native.Mathlib.Decide.{dec_lt, dec_le}
-use lib.ListN.{length, get_or, take, drop, set, length-set, drop_of_length-le, take-append-drop}
+use lib.ListN.{length, take, drop, set, length-set, length-drop, drop_of_length-le, take-append-drop}
 use Rattle.std.proofs.Common.{drop-drop}
 use lib.IntN.{ℤ}
 use lib.Signed.{mag}
 use mir.Syntax.{w32}
 use mir.Val.{of_z, to_z}
 use mir.ValLaws.{to_z-of_z}
-use lib.Seq.{drop-cons, set_out, take_all, take-nil, take-suc-set, drop-set-lt}
+use lib.Seq.{set_out, take_all, take-nil, take-suc-set, drop-set-lt}
 use Rattle.numbers.specs.Put.{put}
 
 pub put-none : {A : Type 0} (at : ℕ) (slice : List A) → put at [] slice ≡ slice
@@ -94,3 +93,26 @@ put-copied {A} at fit xs slice within e =
           rw (many, room, drop-drop (length slice - at) at slice, end, drop_of_length-le slice {i = length slice} (omega arith))
           (sym (append_assoc (take at slice) (take (length slice - at) xs) []) ∙ sym (put_is at xs slice ∙ rw (drop_of_length-le slice {i = at + length xs} (omega (arith, some)))))
     ]
+
+-- Writing from a place on is writing what stands there from its first place on.
+put-first : {A : Type 0} (at : ℕ) (xs slice : List A) → take at slice ++ put 0 xs (drop at slice) ≡ put at xs slice
+put-first at xs slice =
+    let places : length (drop at slice) - 0 ≡ length slice - at = omega (arith, length-drop at slice) in
+    let many : 0 + length xs ≡ length xs = omega arith in
+    rw (put_is 0 xs (drop at slice), places, many, drop-drop (length xs) at slice)
+    (sym (append_assoc (take at slice) (take (length slice - at) xs) (drop (at + length xs) slice)) ∙ sym (put_is at xs slice))
+
+-- A place past the end is as good as the end.
+put-end : {A : Type 0} (at first : ℕ) (xs slice : List A) → first ≡ min at (length slice) → put first xs slice ≡ put at xs slice
+put-end at first xs slice e =
+    elim (dec_le at (length slice)) [
+      | yes within ↦ ap (λ (k : ℕ). put k xs slice) (omega (arith, e, within))
+      | no past ↦ put-past first xs slice (omega (arith, e, past)) ∙ sym (put-past at xs slice (omega (arith, past)))
+    ]
+
+-- The part of the slice from the place on, written by itself.
+pub put-within : {A : Type 0} (at first : ℕ) (xs slice now : List A) → first ≡ min at (length slice) → now ≡ put 0 xs (take (length slice - first) (drop first slice)) → take first slice ++ (now ++ drop (length slice - first) (drop first slice)) ≡ put at xs slice
+put-within at first xs slice now e wrote =
+    let fits : length (drop first slice) ≤ length slice - first = omega (arith, length-drop first slice) in
+    rw (wrote, take_all (length slice - first) (drop first slice) fits, drop_of_length-le (drop first slice) {i = length slice - first} fits, append-nil (put 0 xs (drop first slice)))
+    (put-first first xs slice ∙ put-end at first xs slice e)

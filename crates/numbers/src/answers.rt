@@ -7,12 +7,20 @@ ghost use Rattle.numbers.specs.Answers.{Says};
 use crate::refusals;
 use binary::refusal::Refusal;
 
-pub trait Numbers {
+pub trait Numbers: Sized {
     ghost numbers: { Self → List ℕ };
 
     // From the slice's first place on, as far as it reaches.
     fn put(self, values: &mut [u64])
         ensures { values.new ≡ put 0 (numbers self) values.old };
+
+    // From any place on, as far as it reaches.
+    fn put_at(self, values: &mut [u64], at: usize)
+        ensures { values.new ≡ put at (numbers self) values.old }
+    {
+        let first = at.min(values.len());
+        self.put(&mut values[first..]);
+    }
 }
 
 // 0 where there is an answer.

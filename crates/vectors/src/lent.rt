@@ -1,4 +1,6 @@
 // A slice that is lent to a call, and what it must hold afterwards.
+ghost use Rattle.std.specs.Prelude.{true, ◌≡◌, ◌≤◌, length};
+
 use crate::fields::Fields;
 
 // What a slice has: bytes, numbers, or places of a work slice.
@@ -78,6 +80,7 @@ impl<'a> Lent<'a> {
     // space is wrong.
     pub fn right<T: Place, F: FnOnce(&mut [T]) -> bool>(self, space: &mut [T], call: F) -> bool
         requires { F.IsAlwaysCallable call }
+        ensures { result ≡ true → self.entry.size.room ≤ length space.old }
     {
         match space.get_mut(..self.size.room) {
             Some(places) => call(places) && self.same(places),

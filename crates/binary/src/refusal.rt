@@ -38,12 +38,11 @@ impl Refusal {
 // The number, and the offset.
 impl fmt::Display for Refusal {
     fn fmt<W: fmt::Write>(&self, f: &mut fmt::Formatter<W>) -> fmt::Result {
+        write!(f, "{}", self.number())?;
         match self {
-            Refusal::TooShort(at) => write!(f, "1 at {at}"),
-            Refusal::NegativeCount(at) => write!(f, "2 at {at}"),
-            Refusal::CountAboveLimit(at) => write!(f, "20 at {at}"),
-            Refusal::TooLong => write!(f, "16"),
-            Refusal::Absent => write!(f, "19"),
+            Refusal::TooShort(at) | Refusal::NegativeCount(at) | Refusal::CountAboveLimit(at) =>
+                write!(f, " at {at}"),
+            Refusal::TooLong | Refusal::Absent => Ok(()),
         }
     }
 }

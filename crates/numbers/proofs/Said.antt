@@ -30,11 +30,6 @@ module _ {A Q : Type 0} (numbers : A → List ℕ) (says : Q → Answer A) (q ca
       subst (λ (a : Answer A). Says numbers a before r now) whole
       (record { returns = said.returns; zero = λ e. absurd (omega (arith, e, said.some)); writes = said.writes })
 
--- A refusal that was told apart.
-pub refusal-said : (why case : Refused) (r : ℕ) (before now : List ℕ) → why ≡ case → r ≡ (because case).number → now ≡ put 0 (values (because case)) before → Refuses (because why) before r now
-refusal-said why case r before now is number wrote =
-    rw is (record { returns = number; some = omega (arith, number, some_number case); writes = wrote })
-
 -- A part that a call found.
 pub handed : (part found before : List ℕ) (r : ℕ) (now : List ℕ) → found ≡ part → Hands found before r now → Hands part before r now
 handed part found before r now is hands = subst (λ (p : List ℕ). Hands p before r now) is hands

@@ -1,36 +1,26 @@
 // A refusal's number is returned, its values are written.
-ghost use Rattle.std.specs.Prelude.{◌≡◌, [], ◌∷◌};
+ghost use Rattle.std.specs.Prelude.{◌≡◌};
 ghost use Rattle.binary.specs.Answers.{because};
 ghost use Rattle.numbers.specs.Put.{put};
-ghost use Rattle.numbers.specs.Answers.{Refuses};
+ghost use Rattle.numbers.specs.Answers.{values, Refuses};
 
 use crate::put;
 use binary::refusal::Refusal;
 
-fn put_place(values: &mut [u64], place: usize)
-    ensures { values.new ≡ put 0 (place ∷ []) values.old }
+fn put_values(slice: &mut [u64], why: Refusal)
+    ensures { slice.new ≡ put 0 (values (because why)) slice.old }
 {
-    let numbers = [place as u64];
-    put::put(values, 0, &numbers);
+    match why {
+        Refusal::TooShort(place)
+        | Refusal::NegativeCount(place)
+        | Refusal::CountAboveLimit(place) => put::put(slice, 0, &[place as u64]),
+        Refusal::TooLong | Refusal::Absent => {}
+    }
 }
 
 pub fn refused(values: &mut [u64], why: Refusal) -> u32
     ensures { Refuses (because why) values.old result values.new }
 {
-    match why {
-        Refusal::TooShort(place) => {
-            put_place(values, place);
-            1
-        }
-        Refusal::NegativeCount(place) => {
-            put_place(values, place);
-            2
-        }
-        Refusal::CountAboveLimit(place) => {
-            put_place(values, place);
-            20
-        }
-        Refusal::TooLong => 16,
-        Refusal::Absent => 19,
-    }
+    put_values(values, why);
+    u32::from(why.number())
 }

@@ -1,20 +1,12 @@
--- `refused` meets its contract, refusal by refusal. Assumes nothing.
-use mathlib.Core.Path.{refl, sym}
-use Rattle.numbers.proofs.Putting.{put-none}
-use Rattle.numbers.proofs.Said.{refusal-said}
+-- `refused` meets its contract: no refusal has the number 0. Assumes nothing.
+use native.Mathlib.Omega.{arith}
+use mathlib.Core.Path.{◌∙◌}
+use Rattle.numbers.proofs.Said.{some_number}
 use Rattle.numbers.proofs.refusals.refused.Goals as goal
 
-pub returns-in-TooShort : goal.returns-in-TooShort
-returns-in-TooShort c = refusal-said _ _ _ _ _ c.in-TooShort.is refl c.put_place.ensures
-
-pub returns-in-NegativeCount : goal.returns-in-NegativeCount
-returns-in-NegativeCount c = refusal-said _ _ _ _ _ c.in-NegativeCount.is refl c.put_place-in-NegativeCount.ensures
-
-pub returns-in-CountAboveLimit : goal.returns-in-CountAboveLimit
-returns-in-CountAboveLimit c = refusal-said _ _ _ _ _ c.in-CountAboveLimit.is refl c.put_place-in-CountAboveLimit.ensures
-
-pub returns-in-TooLong : goal.returns-in-TooLong
-returns-in-TooLong c = refusal-said _ _ _ _ _ c.in-TooLong.is refl (sym (put-none 0 _))
-
-pub returns-in-Absent : goal.returns-in-Absent
-returns-in-Absent c = refusal-said _ _ _ _ _ c.in-Absent.is refl (sym (put-none 0 _))
+pub returns : goal.returns
+returns c = record {
+  returns = c.from.ensures ∙ c.number.ensures;
+  some = omega (arith, c.from.ensures, c.number.ensures, some_number c.args.why);
+  writes = c.put_values.ensures;
+}

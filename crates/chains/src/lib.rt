@@ -5,6 +5,7 @@
 pub mod block;
 pub mod chain;
 pub mod fault;
+pub mod key;
 pub mod lookup;
 pub mod near;
 pub mod positions;

@@ -17,12 +17,11 @@ fn behind(records: &Records, p: usize, expected: u32, frame: u32) -> bool
     if records.previous_at(p) != expected {
         return false;
     }
-    let here = records.frame_at(p);
-    if here <= frame {
+    let here = records.key(p);
+    if here.frame <= frame {
         return false;
     }
-    let body = records.body_at(p);
-    key::fine(records.section, records.block.kind, here, body)
+    key::fine(&here)
 }
 
 // How many links were followed, if nothing else was found. The chain may not end, so its links are looked up and tested one by one.

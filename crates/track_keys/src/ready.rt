@@ -22,16 +22,7 @@ pub fn initial_key(records: &Records, track: usize) -> Result<(), Fault>
     requires { track < records.now.block.initials.count }
     ensures { met_read (kind_of records.now.block.kind) records.now.block.initials.count result ≡ key_meets records.now.section.now records.now.block.kind track ((links records.now.section.now records.now.block).initial track).frame ((links records.now.section.now records.now.block).initial track).body false }
 {
-    let frame = records.first_frame(track);
-    let body = records.first_body(track);
-    key::key(
-        records.section,
-        records.block.kind,
-        track,
-        frame,
-        body,
-        false,
-    )
+    key::key(&records.initial_key(track), track, false)
 }
 
 pub fn make_ready(indexed: &Indexed, track: usize, list: &mut [u16]) -> Result<Keys, Fault>

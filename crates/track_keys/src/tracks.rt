@@ -16,16 +16,7 @@ pub fn record_key(records: &Records, track: usize, p: usize, repeated: bool) -> 
     requires track_lt_count { track < records.now.block.initials.count }
     ensures { met_read (kind_of records.now.block.kind) records.now.block.initials.count result ≡ key_meets records.now.section.now records.now.block.kind track ((links records.now.section.now records.now.block).at p).frame ((links records.now.section.now records.now.block).at p).body repeated }
 {
-    let frame = records.frame_at(p);
-    let body = records.body_at(p);
-    key::key(
-        records.section,
-        records.block.kind,
-        track,
-        frame,
-        body,
-        repeated,
-    )
+    key::key(&records.key(p), track, repeated)
 }
 
 // Nested loops over tracks and keys, left by the label at the first refusal, as document 01 names them ("Forms by place in the code").

@@ -1,4 +1,5 @@
 pub mod OfKind
+pub mod OfRecord
 pub mod Sums
 pub mod Measuring
 pub mod Filling

@@ -3,7 +3,7 @@ ghost use Rattle.std.specs.Prelude.{◌≡◌, length};
 ghost use Rattle.keys.specs.Placed.{Room, Wrote};
 ghost use Rattle.writing.specs.Chains.{records_of, keys_bytes_of};
 
-use crate::key::Key;
+use crate::key;
 use chains::chain::Chain;
 
 // How many bytes they have.
@@ -12,7 +12,7 @@ pub fn measure(chain: &Chain) -> usize
 {
     let mut bytes = 0;
     for p in chain.positions() {
-        bytes += Key::additional(&chain.indexed.records, p).length();
+        bytes += key::key_length(&chain.indexed.records.key(p));
     }
     bytes
 }
@@ -35,8 +35,8 @@ pub fn write_records(chain: &Chain, output: &mut [u8], place: usize) -> Written
         end: place,
     };
     for p in chain.positions() {
-        let key = Key::additional(&chain.indexed.records, p);
-        written.end = key.write(output, written.end);
+        let record = chain.indexed.records.key(p);
+        written.end = key::write_key(&record, output, written.end);
         written.records += 1;
     }
     written

@@ -3,24 +3,23 @@ ghost use Rattle.std.specs.Prelude.{◌≡◌, length};
 ghost use Rattle.keys.specs.Placed.{Room, Wrote};
 ghost use Rattle.writing.specs.Chains.{track_of};
 
-use crate::chain;
-use crate::key::Key;
+use crate::{chain, key};
 use chains::chain::Chain;
 use keys::write;
 
 pub fn track_length(chain: &Chain) -> usize
     ensures { result ≡ length (track_of chain.now) }
 {
-    let initial = Key::initial(&chain.indexed.records, chain.track);
-    2 + initial.length() + chain::measure(chain)
+    let initial = chain.indexed.records.initial_key(chain.track);
+    2 + key::key_length(&initial) + chain::measure(chain)
 }
 
 pub fn write_track(chain: &Chain, output: &mut [u8], place: usize) -> usize
     requires { Room place (track_of chain.now) output.old }
     ensures { Wrote place (track_of chain.now) output.old result output.new }
 {
-    let initial = Key::initial(&chain.indexed.records, chain.track);
-    let next = initial.write(output, place + 2);
+    let initial = chain.indexed.records.initial_key(chain.track);
+    let next = key::write_key(&initial, output, place + 2);
     let written = chain::write_records(chain, output, next);
     write::write_count(output, place, written.records + 1);
     written.end

@@ -2,23 +2,24 @@
 use native.Mathlib.Omega.{arith}
 use mathlib.Core.Path.{ap, ◌∙◌}
 use Rattle.chains.specs.Positions.{positions_left}
+use Rattle.writing.proofs.OfRecord.{of-record}
 use Rattle.writing.proofs.Filling.{filled_none, filled-record, filled-room, filled-few, filled-length, filled_more, filled-many, filled-all}
 use Rattle.writing.proofs.chain.write_records.Goals as goal
 
 pub loop-p-init : goal.loop-p-init
 loop-p-init c = filled_none _ _ _ _ _ (ap positions_left c.into_iter-p-iterator.ensures.into_iter_gives ∙ c.positions-p-items.ensures)
 
-pub additional-key-requires : goal.additional-key-requires
-additional-key-requires c = filled-record c.args.chain.now.ends c.requires c.loop-p.invariant _ _ c.in-Some.ensures.steps
+pub key-record-requires : goal.key-record-requires
+key-record-requires c = filled-record c.args.chain.now.ends c.requires c.loop-p.invariant _ _ c.in-Some.ensures.steps
 
-pub write-requires : goal.write-requires
-write-requires c = rw c.additional-key.ensures (filled-room c.args.chain.now.ends c.requires c.loop-p.invariant _ _ c.in-Some.ensures.steps)
+pub write_key-requires : goal.write_key-requires
+write_key-requires c = rw (of-record _ c.args.chain.now.indexed.records.block _ c.key-record.ensures.section c.key-record.ensures.kind c.key-record.ensures.frame c.key-record.ensures.at) (filled-room c.args.chain.now.ends c.requires c.loop-p.invariant _ _ c.in-Some.ensures.steps)
 
 pub overflow_add-written : goal.overflow_add-written
 overflow_add-written c = omega (arith, filled-few c.args.chain.now.ends c.requires c.loop-p.invariant)
 
 pub loop-p-preserved : goal.loop-p-preserved
-loop-p-preserved c = filled_more c.args.chain.now.ends c.requires c.loop-p.invariant _ _ c.in-Some.ensures.steps (rw c.additional-key.ensures at c.write.ensures)
+loop-p-preserved c = filled_more c.args.chain.now.ends c.requires c.loop-p.invariant _ _ c.in-Some.ensures.steps (rw (of-record _ c.args.chain.now.indexed.records.block _ c.key-record.ensures.section c.key-record.ensures.kind c.key-record.ensures.frame c.key-record.ensures.at) at c.write_key.ensures)
 
 pub shape_of-output : goal.shape_of-output
 shape_of-output c = filled-length c.args.chain.now.ends c.requires c.loop-p.invariant

@@ -1,15 +1,40 @@
 // The records of one kind, where they stand in the section, and their numbers.
 ghost use Rattle.std.specs.Prelude.{◌≡◌, ◌+◌, ◌*◌, ◌<◌, ◌≤◌, length};
+ghost use Rattle.std.specs.Int.{w32};
+ghost use Rattle.std.proofs.Common.{of_z};
 ghost use Rattle.layout.specs.Walk.{u32_at};
-ghost use Rattle.chains.specs.Block.{Fits, links};
+ghost use Rattle.clip.specs.Fields.{kind_value};
+ghost use Rattle.chains.specs.Block.{kind_of, Fits, links};
 
 use binary::numbers;
 use order::field::Field;
+use std::fmt;
 
 #[derive(Clone, Copy, Debug, PartialEq, Eq)]
 pub enum Kind {
     Bone,
     Morph,
+}
+
+// As document 01 numbers the kinds.
+impl From<Kind> for u64 {
+    ghost from_gives = { λ kind number. number ≡ of_z w32 (kind_value (kind_of kind)) };
+
+    fn from(kind: Kind) -> u64 {
+        match kind {
+            Kind::Bone => 0,
+            Kind::Morph => 1,
+        }
+    }
+}
+
+impl fmt::Display for Kind {
+    fn fmt<W: fmt::Write>(&self, f: &mut fmt::Formatter<W>) -> fmt::Result {
+        match self {
+            Kind::Bone => write!(f, "bone"),
+            Kind::Morph => write!(f, "morph"),
+        }
+    }
 }
 
 // The frames of the initial records, one a track, and the indices of the additional records: the first number of each.

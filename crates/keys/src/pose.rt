@@ -16,7 +16,7 @@ use crate::body::BoneBody;
 use records::pose::Pose;
 
 // What is against a pose, 12 or 13; specs/Answers.antt gives the numbers.
-#[derive(Clone, Copy)]
+#[derive(Clone, Copy, Debug, PartialEq, Eq)]
 pub enum PoseFault {
     Translation,
     Orientation,

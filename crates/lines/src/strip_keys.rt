@@ -5,17 +5,10 @@ use chains::block::Kind;
 use std::io;
 use std::io::Read;
 
-pub fn array<const N: usize>(strip: &mut impl Read) -> io::Result<[u8; N]> {
+pub(crate) fn array<const N: usize>(strip: &mut impl Read) -> io::Result<[u8; N]> {
     let mut bytes = [0; N];
     strip.read_exact(&mut bytes)?;
     Ok(bytes)
-}
-
-fn word(kind: Kind) -> &'static str {
-    match kind {
-        Kind::Bone => "bone",
-        Kind::Morph => "morph",
-    }
 }
 
 // A field of `N` bytes stands where its bit of the map is not 0.
@@ -53,7 +46,7 @@ pub fn list_tracks(
         for _ in 0..count {
             let frame = u32::from_le_bytes(array(strip)?);
             let map = u8::from_le_bytes(array(strip)?);
-            println!(rt; "{} {track} {frame} {map}", word(kind))?;
+            println!(rt; "{kind} {track} {frame} {map}")?;
             skip_fields(strip, kind, map)?;
         }
         keys = keys.saturating_add(usize::from(count));

@@ -15,7 +15,7 @@ impl fmt::Display for Answer {
                 built.length, built.reached, built.loose
             ),
             Err(StripRefusal::Reading(why)) => write!(f, "refused {why}"),
-            Err(StripRefusal::Bones(count, fault) | StripRefusal::Morphs(count, fault)) => {
+            Err(StripRefusal::Build(_, count, fault)) => {
                 write!(f, "refused {}", Met { count, fault })
             }
             Err(StripRefusal::WorkTooShort(need)) => write!(f, "refused 17: {need}"),

@@ -2,16 +2,15 @@
 use Rattle.std.specs.Prelude.{List, [], ◌∷◌, ◌≡◌, ℕ, pos, Result, Ok, Err}
 use Rattle.layout.specs.Walk.{Refusal, refusal, Answer, answered, declined}
 use Rattle.binary.specs.Answers.{because}
-use Rattle.clip.specs.Fields.{bone, morph}
 use Rattle.strip.specs.Call.{Built, Outcome}
+use Rattle.chains.specs.Block.{kind_of}
 use Rattle.chains.specs.Fault.{fault_of}
 use Rattle.strip_call.specs.declared.answer.StripRefusal.{StripRefusal}
 use Rattle.strip_call.specs.declared.answer.Built.{Built as Told}
 
 abbrev pub refusal_read : StripRefusal → Refusal
 refusal_read (StripRefusal.Reading why) = because why
-refusal_read (StripRefusal.Bones count fault) = fault_of bone count fault
-refusal_read (StripRefusal.Morphs count fault) = fault_of morph count fault
+refusal_read (StripRefusal.Build kind count fault) = fault_of (kind_of kind) count fault
 refusal_read (StripRefusal.WorkTooShort need) = refusal 17 (pos need ∷ [])
 refusal_read (StripRefusal.OutputTooShort length) = refusal 18 (pos length ∷ [])
 

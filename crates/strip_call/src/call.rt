@@ -96,10 +96,7 @@ fn strip_model(
         block: blocks::model_block(Kind::Morph, m),
     };
     let need = of_bones.block.records.count + of_morphs.block.records.count;
-    if first.len() < need {
-        return Err(StripRefusal::WorkTooShort(need));
-    }
-    if second.len() < need {
+    if first.len() < need || second.len() < need {
         return Err(StripRefusal::WorkTooShort(need));
     }
     strip_records(&of_bones, &of_morphs, first, second, output)

@@ -20,10 +20,11 @@ fn build_part(
     ensures first_outside { Outside from records.now.block.records.count first.old first.new }
     ensures second_outside { Outside from records.now.block.records.count second.old second.new }
 {
-    let end = from + records.block.records.count;
+    let block = records.block;
+    let end = from + block.records.count;
     match build::build_kind(records, &mut first[from..end], &mut second[from..end]) {
         Ok(counted) => Ok(counted),
-        Err(fault) => Err(StripRefusal::of_build(records.block, fault)),
+        Err(fault) => Err(StripRefusal::Build(block.kind, block.initials.count, fault)),
     }
 }
 

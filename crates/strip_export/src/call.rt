@@ -34,8 +34,7 @@ fn refused(numbers: &mut [u64], why: StripRefusal) -> u32
 {
     match why {
         StripRefusal::Reading(why) => not_read(numbers, why),
-        StripRefusal::Bones(count, fault) => not_built(numbers, Kind::Bone, count, fault),
-        StripRefusal::Morphs(count, fault) => not_built(numbers, Kind::Morph, count, fault),
+        StripRefusal::Build(kind, count, fault) => not_built(numbers, kind, count, fault),
         StripRefusal::WorkTooShort(places) | StripRefusal::OutputTooShort(places) => {
             put::put(numbers, 0, &[places as u64]);
             u32::from(why.number())

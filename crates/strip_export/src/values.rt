@@ -3,7 +3,7 @@ ghost use Rattle.std.specs.Prelude.{◌≡◌, [], ◌∷◌};
 ghost use Rattle.std.specs.Int.{w32};
 ghost use Rattle.std.proofs.Common.{of_z};
 ghost use Rattle.numbers.specs.Put.{put as written};
-ghost use Rattle.clip.specs.Fields.{signed, kind_value};
+ghost use Rattle.clip.specs.Fields.{signed};
 ghost use Rattle.chains.specs.Block.{kind_of};
 ghost use Rattle.chains.specs.Fault.{fault_of};
 ghost use Rattle.strip_export.specs.Answers.{values as values_of};
@@ -13,26 +13,17 @@ use chains::fault::Fault;
 use numbers::put;
 use strip_call::answer::Built;
 
-fn kind_number(kind: Kind) -> u64
-    ensures { result ≡ of_z w32 (kind_value (kind_of kind)) }
-{
-    match kind {
-        Kind::Bone => 0,
-        Kind::Morph => 1,
-    }
-}
-
 fn pattern(bits: u32) -> u64
     ensures { result ≡ of_z w32 (signed bits) }
 {
-    bits as u64
+    u64::from(bits)
 }
 
 // 12, 13 and 14 say no kind.
 pub fn put_fault(values: &mut [u64], kind: Kind, count: usize, fault: Fault)
     ensures { values.new ≡ written 0 (values_of (fault_of (kind_of kind) count fault)) values.old }
 {
-    let kind = kind_number(kind);
+    let kind = u64::from(kind);
     match fault {
         Fault::NegativeIndex(index) | Fault::RepeatedIndex(index) => {
             put::put(values, 0, &[kind, pattern(index)]);
@@ -57,10 +48,10 @@ pub fn put_fault(values: &mut [u64], kind: Kind, count: usize, fault: Fault)
             put::put(values, 0, &numbers);
         }
         Fault::Translation(bone, frame) | Fault::Orientation(bone, frame) => {
-            put::put(values, 0, &[bone.0 as u64, pattern(frame)]);
+            put::put(values, 0, &[u64::from(bone.0), pattern(frame)]);
         }
         Fault::Weight(morph, frame) => {
-            put::put(values, 0, &[morph.0 as u64, pattern(frame)]);
+            put::put(values, 0, &[u64::from(morph.0), pattern(frame)]);
         }
         Fault::Disconnected(records) => {
             put::put(values, 0, &[kind, records as u64]);

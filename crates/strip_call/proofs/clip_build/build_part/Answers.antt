@@ -12,4 +12,4 @@ pub returns-in-Err : goal.returns-in-Err
 returns-in-Err c =
     let one = put-back c.args.from c.args.records.now.block.records.count c.args.first.now c.build_kind.new.slots c.requires.first_long_enough c.build_kind.ensures.slots_len_unchanged in
     let two = put-back c.args.from c.args.records.now.block.records.count c.args.second.now c.build_kind.new.marks c.requires.second_long_enough c.build_kind.ensures.marks_len_unchanged in
-    record { builds = rw c.of_build.ensures c.in-Err.ensures.builds; first_outside = one.outside; second_outside = two.outside }
+    record { builds = c.in-Err.ensures.builds; first_outside = one.outside; second_outside = two.outside }

@@ -5,9 +5,10 @@ use native.Mathlib.Omega.{arith}
 use mathlib.Core.Bool.{Bool, true, false}
 use mathlib.Core.List.{List}
 use mathlib.Core.Path.{◌≡◌, refl, sym, ap, ◌∙◌}
+use Rattle.std.specs.Prelude.{Option, Some, None}
 use Rattle.layout.specs.Walk.{Reader, ◌>>=◌, ◌>>◌, give, here, fine, u32_at, u32, bool, block}
 use Rattle.layout.proofs.Inversion.{came, Was, item-was}
-use Rattle.records.specs.Base.{base_bits}
+use Rattle.records.specs.Base.{index_bits, base_bits}
 use Rattle.records.specs.Pose.{pose_bits, pose_of, float}
 use Rattle.records.specs.Keyframes.{bone_bits, morph_bits}
 use Rattle.records.specs.declared.base.BaseBits.{BaseBits}
@@ -21,14 +22,15 @@ use Rattle.keys.specs.Words.{words}
 use Rattle.keys.proofs.Bodies.{pose-is, weight_is}
 use Rattle.keys.proofs.ItemsRead.{number-was, pose-was}
 
--- An additional record's base, and an initial one's, whose previous link is no build field.
+-- An additional record's base, and an initial one's, which has no index and whose previous link is no build field.
 pub record AdditionalShown {B : Type 0} (r : Additional B) (b : BaseBits) : Type 0 where
-  pub index : r.index ≡ b.index
+  pub index : Some r.index ≡ b.index
   pub frame : r.frame ≡ b.frame
   pub previous : r.previous ≡ b.previous
   pub next : r.next ≡ b.next
 
 pub record InitialShown {B : Type 0} (r : Initial B) (b : BaseBits) : Type 0 where
+  pub index : b.index ≡ None
   pub frame : r.frame ≡ b.frame
   pub next : r.next ≡ b.next
 
@@ -48,7 +50,7 @@ morph_rest base = do
   give (record { base = base; weight = weight; selected = selected })
 
 -- Frame and links, behind an index.
-abbrev base_rest : ℕ → Reader BaseBits
+abbrev base_rest : Option ℕ → Reader BaseBits
 base_rest index = do
   frame ← u32
   previous ← u32
@@ -65,7 +67,7 @@ module _ (s : List ℕ) where
     pub payload : from + 12 ≡ b.payload_offset
     pub to : from + 12 ≡ next
 
-  base-made : (index : ℕ) (from : ℕ) (b : BaseBits) (next : ℕ) (f p l i j k : ℕ) → Was (u32_at s from) (from + 4) f i → Was (u32_at s i) (i + 4) p j → Was (u32_at s j) (j + 4) l k → fine (record { index = index; frame = f; previous = p; next = l; payload_offset = k }) k ≡ fine b next → (index ≡ b.index) × Base from b next
+  base-made : (index : Option ℕ) (from : ℕ) (b : BaseBits) (next : ℕ) (f p l i j k : ℕ) → Was (u32_at s from) (from + 4) f i → Was (u32_at s i) (i + 4) p j → Was (u32_at s j) (j + 4) l k → fine (record { index = index; frame = f; previous = p; next = l; payload_offset = k }) k ≡ fine b next → (index ≡ b.index) × Base from b next
   base-made index from b next f p l i j k x y z e =
       let whole : ◌≡◌ {A = BaseBits} (record { index = index; frame = f; previous = p; next = l; payload_offset = k }) b = cc in
       let last : k ≡ next = cc in
@@ -84,24 +86,35 @@ module _ (s : List ℕ) where
       )
 
   -- Frame and links that were read from `at` on, behind an index.
-  rest-made : (index from at : ℕ) (b : BaseBits) (next : ℕ) → from ≡ at → base_rest index s at ≡ fine b next → (index ≡ b.index) × Base from b next
+  rest-made : (index : Option ℕ) (from at : ℕ) (b : BaseBits) (next : ℕ) → from ≡ at → base_rest index s at ≡ fine b next → (index ≡ b.index) × Base from b next
   rest-made index from at b next to e =
       let f = came (u32 s at) _ b next e in
       let p = came (u32 s f.at) _ b next f.rest in
       let l = came (u32 s p.at) _ b next p.rest in
       rw to (base-made index at b next f.value p.value l.value f.at p.at l.at (number-was s _ _ _ f.first) (number-was s _ _ _ p.first) (number-was s _ _ _ l.first) l.rest)
 
-  additional-base : (at : ℕ) (b : BaseBits) (next : ℕ) → base_bits true s at ≡ fine b next → (u32_at s at ≡ b.index) × Base (at + 4) b next
+  index-was : (at : ℕ) (index : Option ℕ) (next : ℕ) → index_bits true s at ≡ fine index next → Was (Some (u32_at s at)) (at + 4) index next
+  index-was at index next e =
+      let n = came (u32 s at) _ index next e in
+      go n.value n.at (number-was s at n.value n.at n.first) n.rest
+    where
+      go : (n i : ℕ) → Was (u32_at s at) (at + 4) n i → fine (Some n) i ≡ fine index next → Was (Some (u32_at s at)) (at + 4) index next
+      go n i was e =
+          let whole : ◌≡◌ {A = Option ℕ} (Some n) index = cc in
+          let last : i ≡ next = cc in
+          record { is = ap (λ (k : ℕ). Some k) was.is ∙ whole; to = was.to ∙ last }
+
+  additional-base : (at : ℕ) (b : BaseBits) (next : ℕ) → base_bits true s at ≡ fine b next → (Some (u32_at s at) ≡ b.index) × Base (at + 4) b next
   unfolding base_bits
   additional-base at b next e =
-      let n = came (u32 s at) _ b next e in
-      let was = number-was s at n.value n.at n.first in
+      let n = came (index_bits true s at) _ b next e in
+      let was = index-was at n.value n.at n.first in
       let made = rest-made n.value (at + 4) n.at b next was.to n.rest in
       (was.is ∙ made.0, made.1)
 
-  initial-base : (at : ℕ) (b : BaseBits) (next : ℕ) → base_bits false s at ≡ fine b next → Base at b next
+  initial-base : (at : ℕ) (b : BaseBits) (next : ℕ) → base_bits false s at ≡ fine b next → (b.index ≡ None) × Base at b next
   unfolding base_bits
-  initial-base at b next e = (rest-made 0 at at b next refl e).1
+  initial-base at b next e = let made = rest-made None at at b next refl e in (sym made.0, made.1)
 
   pose-shown : (from j : ℕ) (p : PoseBits) (next : ℕ) → from + 16 ≡ j → pose_bits s j ≡ fine p next → posed (bone_body s from) ≡ pose_of p
   pose-shown from j p next to read =
@@ -154,8 +167,9 @@ module _ (s : List ℕ) where
     initial-shown b same read =
         let x = initial-base at base i read in
         record {
-          frame = x.frame ∙ ap (λ (v : BaseBits). v.frame) same;
-          next = x.link ∙ ap (λ (v : BaseBits). v.next) same;
+          index = ap (λ (v : BaseBits). v.index) (sym same) ∙ x.0;
+          frame = x.1.frame ∙ ap (λ (v : BaseBits). v.frame) same;
+          next = x.1.link ∙ ap (λ (v : BaseBits). v.next) same;
         }
 
   -- A record of one kind, whose fields behind the base are read by `rest` and shown as its body.
@@ -172,7 +186,7 @@ module _ (s : List ℕ) where
     unfolding initial_at
     initial-record e =
         let x = came (base_bits false s at) _ b end e in
-        let fields = behind x.value (at + 12) x.at b end (initial-base at x.value x.at x.first).to x.rest in
+        let fields = behind x.value (at + 12) x.at b end (initial-base at x.value x.at x.first).1.to x.rest in
         (initial-shown body at x.value x.at (base-of b) fields.0 x.first, fields.1)
 
   abbrev pub PoseShown : BoneBody → BoneBits → Type 0
@@ -210,4 +224,4 @@ module _ (s : List ℕ) where
   unfolding bone_bits initial_at bone_body
   initial-curves-shown at b next e =
       let x = came (base_bits false s at) _ b next e in
-      ap (λ (k : ℕ). bytes_at s k 16) ((initial-base at x.value x.at x.first).payload ∙ ap (λ (v : BaseBits). v.payload_offset) (bone-rest x.value x.at x.at b next refl x.rest).0)
+      ap (λ (k : ℕ). bytes_at s k 16) ((initial-base at x.value x.at x.first).1.payload ∙ ap (λ (v : BaseBits). v.payload_offset) (bone-rest x.value x.at x.at b next refl x.rest).0)

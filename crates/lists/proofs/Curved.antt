@@ -13,11 +13,11 @@ use Rattle.records.specs.declared.bone.PmmDocumentBoneKeyframeSummary.{PmmDocume
 use Rattle.records.proofs.Facts.{interpolation-fits}
 use Rattle.section.specs.declared.model.Model.{Model}
 
-pub curves-fit : (found : Walk Model) (include_index : Bool) (s : List ℕ) (b : PmmDocumentBoneKeyframeSummary) → entry_of found (λ m. bone_bits include_index) (λ m at v end. bone_of include_index v at end) s ≡ answered b → b.span.payload_offset + 16 ≤ length s
+pub curves-fit : (found : Walk Model) (include_index : Bool) (s : List ℕ) (b : PmmDocumentBoneKeyframeSummary) → entry_of found (λ m. bone_bits include_index) (λ m at v end. bone_of v at end) s ≡ answered b → b.span.payload_offset + 16 ≤ length s
 unfolding entry_of bone_of span_of
-curves-fit found include_index s b e = go (after found (λ m at. after (bone_bits include_index s at) (λ v end. fine (bone_of include_index v at end) end))) refl e
+curves-fit found include_index s b e = go (after found (λ m at. after (bone_bits include_index s at) (λ v end. fine (bone_of v at end) end))) refl e
   where
-    go : (w : Walk PmmDocumentBoneKeyframeSummary) → after found (λ m at. after (bone_bits include_index s at) (λ v end. fine (bone_of include_index v at end) end)) ≡ w → answer w ≡ answered b → b.span.payload_offset + 16 ≤ length s
+    go : (w : Walk PmmDocumentBoneKeyframeSummary) → after found (λ m at. after (bone_bits include_index s at) (λ v end. fine (bone_of v at end) end)) ≡ w → answer w ≡ answered b → b.span.payload_offset + 16 ≤ length s
     go (fine q next) is e =
         let same : q ≡ b = cc in
         let m = came found _ q next is in

@@ -21,13 +21,13 @@ model_list include_index = cond include_index List.Models List.InitialModels
 
 abbrev pub bone_keyframe : Limits → Bool → ℕ → ListOf ℕ → ℕ → Answer PmmDocumentBoneKeyframeSummary
 bone_keyframe limits include_index k =
-    nth limits (bone_list include_index) k (λ m. bone_bits include_index) (λ m at b end. bone_of include_index b at end)
+    nth limits (bone_list include_index) k (λ m. bone_bits include_index) (λ m at b end. bone_of b at end)
 
 abbrev pub morph_keyframe : Limits → Bool → ℕ → ListOf ℕ → ℕ → Answer PmmDocumentMorphKeyframeSummary
 morph_keyframe limits include_index k =
-    nth limits (morph_list include_index) k (λ m. morph_bits include_index) (λ m at b end. morph_of include_index b at end)
+    nth limits (morph_list include_index) k (λ m. morph_bits include_index) (λ m at b end. morph_of b at end)
 
 abbrev pub model_keyframe : Limits → Bool → ℕ → ListOf ℕ → ℕ → Answer PmmDocumentModelKeyframeSummary
 model_keyframe limits include_index k =
     nth limits (model_list include_index) k (λ m. model_bits include_index m.front.counts.constraints m.front.counts.parents)
-    (λ m at b end. model_of include_index m.front.counts.constraints m.front.counts.parents b at end)
+    (λ m at b end. model_of m.front.counts.constraints m.front.counts.parents b at end)

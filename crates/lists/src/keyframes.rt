@@ -35,7 +35,7 @@ impl Keyframe for PmmDocumentBoneKeyframeSummary {
         };
         let (_, at) = lists::locate(section, start, list, number)?;
         let (bits, end) = bone::read_bone(section, at, include_index)?;
-        Ok(bits.summary(include_index, at, end))
+        Ok(bits.summary(at, end))
     }
 
     fn span(self) -> Span {
@@ -62,7 +62,7 @@ impl Keyframe for PmmDocumentMorphKeyframeSummary {
         };
         let (_, at) = lists::locate(section, start, list, number)?;
         let (bits, end) = morph::read_morph(section, at, include_index)?;
-        Ok(bits.summary(include_index, at, end))
+        Ok(bits.summary(at, end))
     }
 
     fn span(self) -> Span {
@@ -108,7 +108,7 @@ impl Keyframe for PmmDocumentModelKeyframeSummary {
             constraints,
             parents,
         )?;
-        Ok(bits.summary(include_index, constraints, parents, at, end))
+        Ok(bits.summary(constraints, parents, at, end))
     }
 
     fn span(self) -> Span {

@@ -4,6 +4,7 @@ use mathlib.Core.Bool.{Bool}
 use mathlib.Core.List.{List}
 use mathlib.Core.Path.{◌≡◌, sym, ap, subst, ◌∙◌}
 use lib.ListN.{length}
+use Rattle.std.specs.Prelude.{Option}
 use Rattle.layout.specs.Walk.{fine, block, bool, u32}
 use Rattle.layout.proofs.Inversion.{came, item-fits}
 use Rattle.records.specs.Base.{index_bits, base_bits}
@@ -24,7 +25,7 @@ module _ (include_index : Bool) (s : List ℕ) (at : ℕ) where
       let l = came (u32 s p.at) _ b next p.rest in
       go i.value f.value p.value l.value l.at l.rest
     where
-      go : (index frame previous link to : ℕ) → fine (record { index = index; frame = frame; previous = previous; next = link; payload_offset = to }) to ≡ fine b next → b.payload_offset ≡ next
+      go : (index : Option ℕ) (frame previous link to : ℕ) → fine (record { index = index; frame = frame; previous = previous; next = link; payload_offset = to }) to ≡ fine b next → b.payload_offset ≡ next
       go index frame previous link to e =
           let whole : ◌≡◌ {A = BaseBits} (record { index = index; frame = frame; previous = previous; next = link; payload_offset = to }) b = cc in
           let last : to ≡ next = cc in

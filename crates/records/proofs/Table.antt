@@ -5,6 +5,7 @@ use Rattle.std.proofs.lemmas.List.{append-nil}
 use mathlib.Core.Bool.{Bool, true, false}
 use mathlib.Core.List.{List, [], ◌∷◌, ◌++◌}
 use lib.ListN.{replicate}
+use Rattle.std.specs.Prelude.{None}
 use Rattle.layout.specs.Walk.{block, bool, u32, times, items, here}
 use Rattle.layout.specs.Records.{base, initial, additional, bone, morph, model, bone_state, constraint_state, pair}
 use Rattle.layout.proofs.Walks.{Walks, walks-give, walks-here, walks-item, walks-then, walks-bool, walks-u32, walks-bools, walks-pairs}
@@ -31,10 +32,10 @@ base-walks include_index index index-walks =
     (λ p. walks-then u32 _ (4 ∷ []) [] walks-u32 (λ l. walks-then here _ [] [] walks-here (λ o. walks-give _)))))
 
 pub initial-base-walks : Walks (base_bits false) base
-initial-base-walks = base-walks false [] (walks-give 0)
+initial-base-walks = base-walks false [] (walks-give None)
 
 pub additional-base-walks : Walks (base_bits true) (4 ∷ base)
-additional-base-walks = base-walks true (4 ∷ []) walks-u32
+additional-base-walks = base-walks true (4 ∷ []) (walks-then u32 _ (4 ∷ []) [] walks-u32 (λ i. walks-give _))
 
 pub pose-walks : Walks pose_bits (replicate 7 4)
 unfolding pose_bits

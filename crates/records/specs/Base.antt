@@ -1,16 +1,19 @@
 -- Document 01, "Records": "A base is frame, previous link, next link (i32 each); an additional record has its index (i32) before
 -- them, an initial record has none." Definitions only.
-use Rattle.std.specs.Prelude.{ℕ, ℤ, ◌-◌, Bool, true, false, Option, Some, None}
+use Rattle.std.specs.Prelude.{ℕ, ◌-◌, Bool, true, false, Option, Some, None}
 use Rattle.std.specs.Int.{w32}
+use Rattle.std.specs.Option.{option_map}
 use Rattle.std.proofs.Common.{to_z}
 use Rattle.layout.specs.Walk.{Reader, ◌>>=◌, give, here, u32}
 use Rattle.records.specs.declared.base.BaseBits.{BaseBits}
 use Rattle.records.specs.declared.base.PmmDocumentBaseKeyframeSummary.{PmmDocumentBaseKeyframeSummary}
 use Rattle.records.specs.declared.base.Span.{Span}
 
-abbrev pub index_bits : Bool → Reader ℕ
-index_bits true = u32
-index_bits false = give 0
+abbrev pub index_bits : Bool → Reader (Option ℕ)
+index_bits true = do
+  index ← u32
+  give (Some index)
+index_bits false = give None
 
 unfoldable pub base_bits : Bool → Reader BaseBits
 base_bits include_index = do
@@ -21,14 +24,10 @@ base_bits include_index = do
   payload ← here
   give (record { index = index; frame = frame; previous = previous; next = next; payload_offset = payload })
 
-abbrev pub index_of : Bool → ℕ → Option ℤ
-index_of true bits = Some (to_z w32 bits)
-index_of false bits = None
-
-unfoldable pub base_of : Bool → BaseBits → PmmDocumentBaseKeyframeSummary
-base_of include_index b =
+unfoldable pub base_of : BaseBits → PmmDocumentBaseKeyframeSummary
+base_of b =
     record {
-      index = index_of include_index b.index;
+      index = option_map (to_z w32) b.index;
       frame_index = to_z w32 b.frame;
       previous_keyframe_index = to_z w32 b.previous;
       next_keyframe_index = to_z w32 b.next;

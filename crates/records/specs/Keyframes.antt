@@ -22,10 +22,10 @@ bone_bits include_index = do
   give (record { base = base; pose = pose; physics_disabled = physics; selected = selected })
 
 -- The summary of a record from `offset` to `end`.
-unfoldable pub bone_of : Bool → BoneBits → ℕ → ℕ → PmmDocumentBoneKeyframeSummary
-bone_of include_index b offset end =
+unfoldable pub bone_of : BoneBits → ℕ → ℕ → PmmDocumentBoneKeyframeSummary
+bone_of b offset end =
     record {
-      base = base_of include_index b.base;
+      base = base_of b.base;
       pose = pose_of b.pose;
       physics_disabled = b.physics_disabled;
       selected = b.selected;
@@ -40,10 +40,10 @@ morph_bits include_index = do
   selected ← bool
   give (record { base = base; weight = weight; selected = selected })
 
-unfoldable pub morph_of : Bool → MorphBits → ℕ → ℕ → PmmDocumentMorphKeyframeSummary
-morph_of include_index b offset end =
+unfoldable pub morph_of : MorphBits → ℕ → ℕ → PmmDocumentMorphKeyframeSummary
+morph_of b offset end =
     record {
-      base = base_of include_index b.base;
+      base = base_of b.base;
       weight = float b.weight;
       selected = b.selected;
       span = span_of offset b.base.payload_offset end;
@@ -69,10 +69,10 @@ model_bits include_index constraints parents = do
     self_shadow_enabled_offset = shadow_at;
   })
 
-unfoldable pub model_of : Bool → ℕ → ℕ → ModelBits → ℕ → ℕ → PmmDocumentModelKeyframeSummary
-model_of include_index constraints parents b offset end =
+unfoldable pub model_of : ℕ → ℕ → ModelBits → ℕ → ℕ → PmmDocumentModelKeyframeSummary
+model_of constraints parents b offset end =
     record {
-      base = base_of include_index b.base;
+      base = base_of b.base;
       visible = b.visible;
       self_shadow_enabled = b.self_shadow_enabled;
       visible_offset = b.base.payload_offset;

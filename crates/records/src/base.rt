@@ -6,10 +6,10 @@ ghost use Rattle.records.specs.Base.{index_bits, base_bits, base_of, span_of};
 use binary::numbers;
 use binary::refusal::Read;
 
-// An initial record has no index: 0 stands here. The payload follows the base.
+// An initial record has no index. The payload follows the base.
 #[derive(Clone, Copy)]
 pub struct BaseBits {
-    pub index: u32,
+    pub index: Option<u32>,
     pub frame: u32,
     pub previous: u32,
     pub next: u32,
@@ -33,14 +33,14 @@ pub struct Span {
     pub payload_byte_length: usize,
 }
 
-fn read_index(s: &[u8], at: usize, include_index: bool) -> Read<u32>
+fn read_index(s: &[u8], at: usize, include_index: bool) -> Read<Option<u32>>
     ensures { read result ≡ index_bits include_index s.now at }
 {
-    if include_index {
-        numbers::read_u32_le(s, at)
-    } else {
-        Ok((0, at))
+    if !include_index {
+        return Ok((None, at));
     }
+    let (index, next) = numbers::read_u32_le(s, at)?;
+    Ok((Some(index), next))
 }
 
 #[tactic(auto, unfolding(crate::specs::Base::base_bits))]
@@ -63,11 +63,11 @@ pub fn read_base(s: &[u8], at: usize, include_index: bool) -> Read<BaseBits>
 
 impl BaseBits {
     #[tactic(auto, unfolding(crate::specs::Base::base_of))]
-    pub fn summary(self, include_index: bool) -> PmmDocumentBaseKeyframeSummary
-        ensures { result ≡ base_of include_index self }
+    pub fn summary(self) -> PmmDocumentBaseKeyframeSummary
+        ensures { result ≡ base_of self }
     {
         PmmDocumentBaseKeyframeSummary {
-            index: include_index.then_some(self.index.cast_signed()),
+            index: self.index.map(u32::cast_signed),
             frame_index: self.frame.cast_signed(),
             previous_keyframe_index: self.previous.cast_signed(),
             next_keyframe_index: self.next.cast_signed(),

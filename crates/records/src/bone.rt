@@ -48,16 +48,11 @@ pub fn read_bone(s: &[u8], at: usize, include_index: bool) -> Read<BoneBits>
 impl BoneBits {
     // The summary of a record that stands from `offset` to `end`.
     #[tactic(auto, unfolding(crate::specs::Keyframes::bone_of))]
-    pub fn summary(
-        self,
-        include_index: bool,
-        offset: usize,
-        end: usize,
-    ) -> PmmDocumentBoneKeyframeSummary
-        ensures { result ≡ bone_of include_index self offset end }
+    pub fn summary(self, offset: usize, end: usize) -> PmmDocumentBoneKeyframeSummary
+        ensures { result ≡ bone_of self offset end }
     {
         PmmDocumentBoneKeyframeSummary {
-            base: self.base.summary(include_index),
+            base: self.base.summary(),
             pose: Pose::from(self.pose),
             physics_disabled: self.physics_disabled,
             selected: self.selected,

@@ -78,19 +78,18 @@ impl ModelBits {
     #[tactic(auto, unfolding(crate::specs::Keyframes::model_of))]
     pub fn summary(
         self,
-        include_index: bool,
         constraints: u32,
         parents: u32,
         offset: usize,
         end: usize,
     ) -> PmmDocumentModelKeyframeSummary
-        ensures { result ≡ model_of include_index constraints parents self offset end }
+        ensures { result ≡ model_of constraints parents self offset end }
     {
         let bools = self.constraint_states_offset;
         let pairs = self.outside_parent_indices_offset;
         let shadow = self.self_shadow_enabled_offset;
         PmmDocumentModelKeyframeSummary {
-            base: self.base.summary(include_index),
+            base: self.base.summary(),
             visible: self.visible,
             self_shadow_enabled: self.self_shadow_enabled,
             visible_offset: self.base.payload_offset,

@@ -42,16 +42,11 @@ pub fn read_morph(s: &[u8], at: usize, include_index: bool) -> Read<MorphBits>
 impl MorphBits {
     // The summary of a record that stands from `offset` to `end`.
     #[tactic(auto, unfolding(crate::specs::Keyframes::morph_of))]
-    pub fn summary(
-        self,
-        include_index: bool,
-        offset: usize,
-        end: usize,
-    ) -> PmmDocumentMorphKeyframeSummary
-        ensures { result ≡ morph_of include_index self offset end }
+    pub fn summary(self, offset: usize, end: usize) -> PmmDocumentMorphKeyframeSummary
+        ensures { result ≡ morph_of self offset end }
     {
         PmmDocumentMorphKeyframeSummary {
-            base: self.base.summary(include_index),
+            base: self.base.summary(),
             weight: num::f32_from_bits_with_nan(self.weight),
             selected: self.selected,
             span: Span::new(offset, self.base.payload_offset, end),

@@ -153,7 +153,7 @@ module _ (limits : Limits) (s : List ℕ) (start : ℕ) (i : Bool) (k : ℕ) whe
   curves-place : (b : CameraKeyframeSummary) → camera_keyframe limits i k s start ≡ answered b → (to : ℕ) × (b.offsets.interpolation_offset ≡ to - 30) × (30 ≤ to) × (to ≤ length s)
   unfolding camera_of offsets_of size
   curves-place b e =
-      let m = met (Track.locate limits Kind.Camera i k s start) (λ t. camera_bits i) (λ t at v to. camera_of i v at to) s b e in
+      let m = met (Track.locate limits Kind.Camera i k s start) (λ t. camera_bits i) (λ t at v to. camera_of v at to) s b e in
       let r = m.read in
       let all = ends_as _ _ (camera-walk i) s m.at r.value r.end r.reads in
       let to = items-end _ s m.at r.end all in

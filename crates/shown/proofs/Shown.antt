@@ -9,6 +9,7 @@ use Rattle.records.specs.Base.{base_of, span_of}
 use Rattle.records.specs.Keyframes.{bone_of, morph_of}
 use Rattle.records.specs.declared.base.BaseBits.{BaseBits}
 use Rattle.std.specs.Prelude.{Some, None}
+use Rattle.std.specs.Option.{option_map}
 use Rattle.records.specs.declared.base.PmmDocumentBaseKeyframeSummary.{PmmDocumentBaseKeyframeSummary}
 use Rattle.records.specs.declared.bone.PmmDocumentBoneKeyframeSummary.{PmmDocumentBoneKeyframeSummary}
 use Rattle.records.specs.declared.morph.PmmDocumentMorphKeyframeSummary.{PmmDocumentMorphKeyframeSummary}
@@ -38,19 +39,19 @@ pub record BasedInitial {B : Type 0} (b : PmmDocumentBaseKeyframeSummary) (r : I
   pub frame : b.frame_index ≡ signed r.frame
   pub next : b.next_keyframe_index ≡ signed r.next
 
-based : {B : Type 0} (r : Additional B) (v : BaseBits) → AdditionalShown r v → Based (base_of true v) r
+based : {B : Type 0} (r : Additional B) (v : BaseBits) → AdditionalShown r v → Based (base_of v) r
 unfolding base_of
 based r v shown =
     record {
-      index = ap (λ (n : ℕ). Some (signed n)) (sym shown.index);
+      index = ap (option_map signed) (sym shown.index);
       frame = ap signed (sym shown.frame);
       previous = ap signed (sym shown.previous);
       next = ap signed (sym shown.next);
     }
 
-based-initial : {B : Type 0} (r : Initial B) (v : BaseBits) → InitialShown r v → BasedInitial (base_of false v) r
+based-initial : {B : Type 0} (r : Initial B) (v : BaseBits) → InitialShown r v → BasedInitial (base_of v) r
 unfolding base_of
-based-initial r v shown = record { index = refl; frame = ap signed (sym shown.frame); next = ap signed (sym shown.next) }
+based-initial r v shown = record { index = ap (option_map signed) shown.index; frame = ap signed (sym shown.frame); next = ap signed (sym shown.next) }
 
 -- The body of a bone record, whose curves are the payload's first 16 bytes, and of a morph record.
 pub record Bodied (s : ListOf ℕ) (b : PmmDocumentBoneKeyframeSummary) (body : BoneBody) : Type 0 where

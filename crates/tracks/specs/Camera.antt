@@ -66,10 +66,10 @@ offsets_of end =
     }
 
 -- The summary of a record from `offset` to `end`. "The perspective view is on when its byte is 0."
-unfoldable pub camera_of : Bool → CameraBits → ℕ → ℕ → CameraKeyframeSummary
-camera_of include_index b offset end =
+unfoldable pub camera_of : CameraBits → ℕ → ℕ → CameraKeyframeSummary
+camera_of b offset end =
     record {
-      base = base_of include_index b.base;
+      base = base_of b.base;
       distance = of_bits binary32 b.view.distance;
       look_at = vector_of b.view.look_at;
       angle = vector_of b.view.angle;
@@ -84,7 +84,7 @@ camera_of include_index b offset end =
 
 abbrev pub camera_keyframe : Limits → Bool → ℕ → List ℕ → ℕ → Answer CameraKeyframeSummary
 camera_keyframe limits include_index k s start =
-    entry_of (locate limits Kind.Camera include_index k s start) (λ t. camera_bits include_index) (λ t at b end. camera_of include_index b at end) s
+    entry_of (locate limits Kind.Camera include_index k s start) (λ t. camera_bits include_index) (λ t at b end. camera_of b at end) s
 
 -- The interpolation's 24 bytes, or nothing.
 abbrev pub curves_part : Answer CameraKeyframeSummary → List ℕ → List ℕ

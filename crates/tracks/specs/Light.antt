@@ -25,10 +25,10 @@ abbrev pub item_at : ℕ → ℕ → ℕ
 item_at k end = end - size (drop k light)
 
 -- The summary of a record from `offset` to `end`.
-unfoldable pub light_of : Bool → LightBits → ℕ → ℕ → LightKeyframeSummary
-light_of include_index b offset end =
+unfoldable pub light_of : LightBits → ℕ → ℕ → LightKeyframeSummary
+light_of b offset end =
     record {
-      base = base_of include_index b.base;
+      base = base_of b.base;
       color = vector_of b.color;
       direction = vector_of b.direction;
       selected = b.selected;
@@ -42,4 +42,4 @@ light_of include_index b offset end =
 
 abbrev pub light_keyframe : Limits → Bool → ℕ → List ℕ → ℕ → Answer LightKeyframeSummary
 light_keyframe limits include_index k s start =
-    entry_of (locate limits Kind.Light include_index k s start) (λ t. light_bits include_index) (λ t at b end. light_of include_index b at end) s
+    entry_of (locate limits Kind.Light include_index k s start) (λ t. light_bits include_index) (λ t at b end. light_of b at end) s

@@ -141,13 +141,13 @@ impl CameraOffsets {
 
 impl CameraBits {
     #[tactic(auto, unfolding(crate::specs::Camera::camera_of))]
-    fn summary(self, include_index: bool, offset: usize, end: usize) -> CameraKeyframeSummary
-        ensures { result ≡ camera_of include_index self offset end }
+    fn summary(self, offset: usize, end: usize) -> CameraKeyframeSummary
+        ensures { result ≡ camera_of self offset end }
     {
         let view = self.view;
         let lens = self.lens;
         CameraKeyframeSummary {
-            base: self.base.summary(include_index),
+            base: self.base.summary(),
             distance: num::f32_from_bits_with_nan(view.distance),
             look_at: vector::vector_of(view.look_at),
             angle: vector::vector_of(view.angle),
@@ -176,7 +176,7 @@ impl Keyframe for CameraKeyframeSummary {
     ) -> Result<CameraKeyframeSummary, Refusal> {
         let (_, at) = track::locate(section, start, Kind::Camera, include_index, number)?;
         let (bits, end) = read_camera(section, at, include_index)?;
-        Ok(bits.summary(include_index, at, end))
+        Ok(bits.summary(at, end))
     }
 
     fn span(self) -> Span {

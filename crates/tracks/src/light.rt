@@ -52,11 +52,11 @@ fn read_light(s: &[u8], at: usize, include_index: bool) -> Read<LightBits>
 
 impl LightBits {
     #[tactic(auto, unfolding(crate::specs::Light::light_of, layout::specs::Records::size))]
-    fn summary(self, include_index: bool, offset: usize, end: usize) -> LightKeyframeSummary
-        ensures { result ≡ light_of include_index self offset end }
+    fn summary(self, offset: usize, end: usize) -> LightKeyframeSummary
+        ensures { result ≡ light_of self offset end }
     {
         LightKeyframeSummary {
-            base: self.base.summary(include_index),
+            base: self.base.summary(),
             color: vector::vector_of(self.color),
             direction: vector::vector_of(self.direction),
             selected: self.selected,
@@ -84,7 +84,7 @@ impl Keyframe for LightKeyframeSummary {
     ) -> Result<LightKeyframeSummary, Refusal> {
         let (_, at) = track::locate(section, start, Kind::Light, include_index, number)?;
         let (bits, end) = read_light(section, at, include_index)?;
-        Ok(bits.summary(include_index, at, end))
+        Ok(bits.summary(at, end))
     }
 
     fn span(self) -> Span {

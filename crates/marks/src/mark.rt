@@ -11,6 +11,8 @@ use crate::counts::Counts;
 use chains::chain::{Chain, Chains};
 use flags::bits;
 
+// The slice's length is a clause here and below, since these functions write it.
+
 // The records of one chain, and how many there are. Counted here: an iterator that is used up does not say how many it gave, and `count`
 // would follow the links once more.
 fn mark_chain(chain: &Chain, marks: &mut [u16]) -> usize

@@ -16,6 +16,8 @@ use chains::lookup::Indexed;
 use section::model;
 use section::model::Model;
 
+// The slices stand beside one another as they are lent: each contract says of each what it held and holds.
+
 // The clip is built, and its strip written. A refusal leaves the work slices as the build left them.
 fn build_and_write<'a>(
     of_bones: &Records<'a>,

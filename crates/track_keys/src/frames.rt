@@ -9,6 +9,8 @@ use chains::chain::Chain;
 use order::field::{Field, Numbers};
 use order::{met, repeats};
 
+// What the list holds is a clause here and below, since most of these functions write it (order, slots).
+
 // The last key up to which frames rise, where the list holds the chain.
 fn rising(chain: &Chain, list: &[u16]) -> usize
     requires { list.now ≡ chain_at chain.now.indexed.records.section.now chain.now.indexed.records.block chain.now.track }

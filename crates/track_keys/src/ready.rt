@@ -11,7 +11,8 @@ use chains::chain::Chain;
 use chains::fault::Fault;
 use chains::lookup::Indexed;
 
-// How many records the chain has, and the number of the first key whose frame is repeated.
+// How many records the chain has, and the number of the first key whose frame is repeated. No Option: where there is none, the number is
+// that behind the last key, which no key meets.
 #[derive(Clone, Copy)]
 pub struct Keys {
     pub records: usize,

@@ -10,6 +10,7 @@ use binary::numbers;
 use order::field::Field;
 use std::fmt;
 
+// Two kinds and no more, matched where their bodies differ: a type parameter would make two copies of every walk.
 #[derive(Clone, Copy, Debug, PartialEq, Eq)]
 pub enum Kind {
     Bone,

@@ -1,6 +1,5 @@
 pub mod Field
 pub mod Sorted
-pub mod Heap
 pub mod Find
 pub mod Repeat
 pub mod Met

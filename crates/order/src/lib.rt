@@ -5,7 +5,6 @@
 mod close;
 mod consecutive;
 pub mod field;
-mod heap;
 pub mod met;
 pub mod repeats;
 pub mod search;

@@ -22,6 +22,7 @@ fn build_part(
 {
     let block = records.block;
     let end = from + block.records.count;
+    // No `map_err`: the check reads the two arms as they stand; of the closure it would need a proof by hand.
     match build::build_kind(records, &mut first[from..end], &mut second[from..end]) {
         Ok(counted) => Ok(counted),
         Err(fault) => Err(StripRefusal::Build(block.kind, block.initials.count, fault)),

@@ -40,6 +40,7 @@ fn bone_key(body: &BoneBody, track: BoneIndex, frame: u32, repeated: bool) -> Re
     ensures { (count : ℕ) → met_read bone count result ≡ key_meets body.now.section.now Kind.Bone track.0 frame body.now.at repeated }
 {
     frame_asked(track.0, frame, repeated)?;
+    // No `map_err`: the check reads the arms as they stand; of the closure it would need a proof by hand.
     match body.asked() {
         Ok(()) => Ok(()),
         Err(PoseFault::Translation) => Err(Fault::Translation(track, frame)),

@@ -36,12 +36,13 @@ exec "$real" "\$@"
 WRAPPER
 chmod +x "$links/toolchain/bin/clang"
 mkdir -p target/staticlib
-for name in exports strip_export; do
+for crate in exports strip_export_c; do
+    name=${crate%_c}
     archive=target/staticlib/lib$name.a
     before=$(sha256sum "$archive" 2>/dev/null | cut -d' ' -f1)
-    (cd "crates/${name}_c" && "$links/bin/rt" lib) >"$kept/$name.log" 2>&1 || { tail -5 "$kept/$name.log" >&2; exit 1; }
+    (cd "crates/$crate" && "$links/bin/rt" lib) >"$kept/$name.log" 2>&1 || { tail -5 "$kept/$name.log" >&2; exit 1; }
     mv "$kept/module.bc" "$kept/$name.bc"
-    cp "crates/${name}_c/out/lib${name}_c.a" "$archive"
+    cp "crates/$crate/out/lib$crate.a" "$archive"
     after=$(sha256sum "$archive" | cut -d' ' -f1)
     if [ -z "$before" ]; then
         echo "$name: module kept; there was no archive before"

@@ -1,6 +1,5 @@
 -- Numbers read one after another. Assumes nothing.
-use Rattle.std.proofs.Common.{◌≡◌, ℕ, zero, suc, ◌+◌, ◌-◌, ◌<◌, ◌≤◌, List, [], ◌∷◌, ◌++◌, length, take, refl, sym, ap, ◌∙◌, arith, append_assoc, append-nil, take_all}
-use native.Mathlib.Numerals.{unary_clauses}
+use Rattle.std.proofs.Common.{◌≡◌, ℕ, suc, ◌+◌, ◌-◌, ◌<◌, ◌≤◌, List, [], ◌∷◌, ◌++◌, length, take, refl, ◌∙◌, arith, append_assoc, append-nil, take_all}
 use Rattle.std.proofs.Math.ListN.{set, length-set}
 use Rattle.std.proofs.lemmas.List.{take_more_set}
 use Rattle.layout.specs.Walk.{Walk, Refusal, fine, refused, after, u32}
@@ -15,14 +14,7 @@ after-push : (w : Walk (List ℕ)) (front : List ℕ) (a : ℕ) → after (after
 after-push (fine others end) front a = simp append_assoc
 after-push (refused why) front a = refl
 
-after-fine : {A : Type 0} (w : Walk A) → after w (λ a n. fine a n) ≡ w
-after-fine (fine a n) = refl
-after-fine (refused r) = refl
-
 module _ (n : ℕ) (s : List ℕ) (at : ℕ) where
-  pub passed-none : (values : List ℕ) → length values ≡ n → Passed n s at 0 values at
-  passed-none values e = record { len = e; is = simp unary_clauses (sym (after-fine (u32s n s at))) }
-
   module _ (i : ℕ) (values : List ℕ) (next : ℕ) (passed : Passed n s at i values next) where
     turn : (rest : ℕ) → n - i ≡ suc rest → u32s (n - i) s next ≡ after (u32 s next) (λ a behind. after (u32s rest s behind) (λ others end. fine (a ∷ others) end))
     unfolding u32s
@@ -45,3 +37,5 @@ module _ (n : ℕ) (s : List ℕ) (at : ℕ) where
 
     pub passed-all : n ≤ i → u32s n s at ≡ fine values next
     passed-all none = passed.is ∙ rw (none-left (n - i) (omega arith), take_all i values (omega (arith, passed.len)), append-nil values)
+
+pub ruleset read_u32s_le = (passed-stops, passed-all)

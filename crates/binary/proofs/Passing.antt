@@ -1,10 +1,10 @@
 -- The arithmetic of a record's runs, one after another: sizes add up, and places are found run by run. Assumes nothing.
-use Rattle.std.proofs.Common.{◌≡◌, ℕ, suc, ◌+◌, ◌-◌, ◌*◌, ◌/◌, ◌≤◌, ◌<◌, List, [], ◌∷◌, ◌++◌, replicate, length, get_or, drop, drop-cons, add-one, refl, sym, ap, ◌∙◌, arith}
+use Rattle.std.proofs.Common.{◌≡◌, ℕ, suc, ◌+◌, ◌-◌, ◌*◌, ◌/◌, ◌≤◌, ◌<◌, [], ◌++◌, replicate, length, get_or, drop, drop-cons, add-one, refl, sym, ap, ◌∙◌, arith}
 use Rattle.std.proofs.lemmas.List.{drop_all}
 use Rattle.layout.specs.Records.{size}
 use Rattle.layout.proofs.Sizes.{size-run}
 use Rattle.layout.specs.Blocks.{place}
-use Rattle.layout.proofs.Blocks.{place-run, run-whole, run_short, pos-of-mul}
+use Rattle.layout.proofs.Blocks.{place-run, run-whole, run_short}
 use Rattle.binary.specs.Items.{runs_widths, widths}
 use Rattle.binary.specs.declared.runs.Run.{Run}
 use Rattle.binary.specs.declared.blocks.Items.{Items}
@@ -63,9 +63,6 @@ module _ (items : Items) (i : ℕ) (run : Run) (more : i < 5) (is : run ≡ get_
         let at = place-run run.times run.width (runs_widths (drop (i + 1) items.runs)) (room - n) ∙ run_short run.times run.width (room - n) _ (omega arith) in
         ap (λ (k : ℕ). n + k) (sym at) ∙ from
 
-    pub run-some : room - n < m → 0 < run.width
-    run-some lacks = pos-of-mul run.times run.width (omega arith)
-
 pub sized-all : (items : Items) (i n : ℕ) → 5 ≤ i → Sized items i n → n ≡ size (widths items)
 unfolding size
 sized-all items i n past sized =
@@ -79,3 +76,5 @@ whole-all items room i n past whole =
     let none : drop i items.runs ≡ [] = drop_all i items.runs (omega (arith, whole.len)) in
     let at = rw none at whole.is in
     omega (arith, at)
+
+pub ruleset passing = (sized-first, whole-first, place-lacks, whole-more, place-in_run, whole-all)

@@ -45,3 +45,5 @@ module _ (n k : ℕ) (widths s : List ℕ) (at : ℕ) (starts : at ≤ length s)
   -- The place is no further than the section's end.
   pub place_in : (p : ℕ) → p ≡ place widths ((length s - at) % k) → at + ((length s - at) / k * k + p) ≤ length s
   place_in p found = omega (arith, div-add-mod' (length s - at) k, place-le widths ((length s - at) % k))
+
+pub ruleset skip_records = (skip-none, skip-past, skip-empty, skip-whole, skip-short, place_in)

@@ -16,6 +16,7 @@ pub struct Items {
     pub runs: [Run; 5],
 }
 
+#[tactic(auto, using(crate::proofs::Passing::passing))]
 pub fn record_size(items: &Items) -> usize
     ensures { result ≡ size (widths items.now) }
 {
@@ -27,6 +28,7 @@ pub fn record_size(items: &Items) -> usize
 }
 
 // Where in `room` bytes the first item of a record stands that is not whole.
+#[tactic(auto, using(crate::proofs::Passing::passing))]
 fn place_in_record(items: &Items, room: usize) -> usize
     ensures { result ≡ place (widths items.now) room }
 {
@@ -47,6 +49,7 @@ fn place_in_record(items: &Items, room: usize) -> usize
 }
 
 // `count` records; their number costs nothing.
+#[tactic(auto, using(crate::proofs::Skips::skip_records))]
 pub fn skip_records(s: &[u8], at: usize, count: u32, items: &Items) -> Result<usize, Refusal>
     ensures { skipped result ≡ times_of count (items_of (widths items.now)) s.now at }
 {

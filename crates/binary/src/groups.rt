@@ -6,6 +6,7 @@ ghost use Rattle.binary.specs.Answers.{read};
 use crate::numbers;
 use crate::refusal::Read;
 
+#[tactic(auto, using(crate::proofs::NumbersRead::read_u32s_le))]
 pub fn read_u32s_le<const N: usize>(s: &[u8], at: usize) -> Read<[u32; N]>
     ensures { read result ≡ u32s N s.now at }
 {

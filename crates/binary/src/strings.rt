@@ -24,8 +24,8 @@ fn first_zero(bytes: &[u8]) -> Option<usize>
     bytes.iter().position(|byte| *byte == 0)
 }
 
-#[tactic(auto, using(crate::proofs::Zero::before_zero_or), unfolding(layout::specs::Walk::item))]
 // A field of `width` bytes ends before its first zero byte, if it has one.
+#[tactic(auto, using(crate::proofs::Zero::before_zero_or), unfolding(layout::specs::Walk::item))]
 pub fn read_fixed_string(s: &[u8], at: usize, width: usize) -> Read<Part>
     ensures { read result ≡ fixed_string width s.now at }
 {
@@ -34,8 +34,8 @@ pub fn read_fixed_string(s: &[u8], at: usize, width: usize) -> Read<Part>
     Ok((Part { offset: at, length }, next))
 }
 
-#[tactic(auto, using(layout::proofs::Steps::turns))]
 // The position behind `count` strings.
+#[tactic(auto, using(layout::proofs::Steps::turns))]
 pub fn skip_strings(s: &[u8], at: usize, count: u32) -> Result<usize, Refusal>
     ensures { skipped result ≡ times count string s.now at }
 {

@@ -2,7 +2,7 @@
 use mathlib.Core.List.{map}
 use mathlib.Core.Path.{◌≡◌, refl}
 use lib.Ieee.{span, climb, size, odd, units, round, sum, add, mul, lt, eq, le, of_fields, of_bits}
-use Rattle.layout.specs.Walk.{item, string, times, count, items}
+use Rattle.layout.specs.Walk.{item, string, times, count, items, bytes_at}
 use Rattle.layout.specs.Records as Table
 use Rattle.binary.specs.Groups.{u32s}
 use Rattle.section.specs.Model.{opening, names, entries, counts, view, scroll, front, keyframes, keyframe_blocks, states, ending, model_parts, model_section}
@@ -12,7 +12,7 @@ use Rattle.clip.specs.Scan.{index_refusal, scan, record_of}
 use Rattle.clip.specs.Chain.{follow, chain}
 use Rattle.clip.specs.Keys.{key_test, squared_length, translation_fails, orientation_fails, pose_asked, weight_asked}
 use Rattle.clip.specs.Build.{chain_of, keys, reached_before, disconnected, links_followed, loose, records_refusal, track_refusal, build_refusal}
-use Rattle.clip.specs.Section.{bytes_at, bone_body, morph_body, initial_at, additional_at, records_at, bones, morphs, clip_refusal, reached_records, loose_records}
+use Rattle.clip.specs.Section.{bone_body, morph_body, initial_at, additional_at, records_at, bones, morphs, clip_refusal, reached_records, loose_records}
 use Rattle.strip.specs.Plain.{plain_float, plain_floats, plain_bytes}
 use Rattle.strip.specs.Keys.{little_endian, map_byte, present, key_bytes}
 use Rattle.strip.specs.Strip.{keys_bytes, track_bytes, tracks_bytes, strip_of}

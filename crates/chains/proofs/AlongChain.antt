@@ -47,9 +47,6 @@ get_or-append (q ∷ ps) p qs = get_or-append ps p qs
 pub ending : {s : List ℕ} {b : Block} {slots : List ℕ} {track : ℕ} → Ordered s b slots → AllEnd s b → track < b.initials.count → Ends s b slots track
 ending {track = track} ordered all_end is-track = record { ordered = ordered; is-track = is-track; ends = all_end track is-track }
 
-pub along-starts : (s : List ℕ) (b : Block) (track : ℕ) {link : ℕ} → link ≡ ((links s b).initial track).next → Along s b track 0 link
-along-starts s b track is = record { most = omega arith; linked = is }
-
 module _ {s : List ℕ} {b : Block} {slots : List ℕ} {track : ℕ} (x : Ends s b slots track) where
   pub chained : Chained (links s b) track ((links s b).initial track).next (chain_at s b track)
   chained = is-chain (kind_of b.kind) (links s b) track (chain_at s b track) x.ends

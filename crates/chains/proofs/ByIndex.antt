@@ -186,3 +186,5 @@ module _ (s : List ℕ) (b : Block) (fits : Fits s b) where
           sym (none_first b.records.count (λ p. given (eqb ((links s b).at p).index link) p) (λ p lt.
           let at = slot_of p lt in
           none-given _ p (ne_eqb ((links s b).at p).index link (λ same. none_has at.place at.inside (subst (λ (q : ℕ). ((links s b).at q).index ≡ link) (sym at.is) same)))))
+
+pub ruleset lookups = (slots-below, lookup-at, lookup_absent)

@@ -25,3 +25,5 @@ module _ (s : List ℕ) (b : Block) (fits : Fits s b) where
       let place = place-fits b.initials.first b.initials.width b.initials.count t (length s) lt fits.initials in
       let wide = fits.initial_width in
       omega (arith, place, wide)
+
+pub ruleset places = (record-fits, initial-fits)

@@ -1,19 +1,15 @@
 -- The index scan where the indices rise in file order. Assumes nothing.
-use Prim.Native.Nat.{ℕ, ◌+◌, ◌≤◌, ◌<◌}
+use Prim.Native.Nat.{ℕ, ◌≤◌, ◌<◌}
 use native.Mathlib.Omega.{arith}
-use mathlib.Core.Bool.{true}
 use mathlib.Core.List.{List}
 use mathlib.Core.Option.{none}
-use mathlib.Core.Path.{◌≡◌, refl, sym, subst}
-use borrow.Author.Tests.{leb-true}
-use lib.Dec.{leb}
+use mathlib.Core.Path.{◌≡◌, refl, sym}
 use Rattle.order.specs.Field.{number_of, key_of}
 use Rattle.order.specs.Repeat.{FirstRepeat, up_to}
 use Rattle.order.specs.Sorted.{Sorted}
 use Rattle.order.proofs.Counted.{up_to-length, up_to-at}
 use Rattle.clip.specs.Scan.{scan}
 use Rattle.clip.specs.Section.{additional_at}
-use Rattle.clip.proofs.First.{below_suc}
 use Rattle.chains.specs.Block.{Fits, kind_of, links}
 use Rattle.chains.specs.Lookup.{Ordered}
 use Rattle.chains.specs.Scan.{InRange, IndicesRise}
@@ -31,31 +27,6 @@ module _ (s : List ℕ) (b : Block) where
     pub below : (q : ℕ) → q < p → index q < least
     pub rise : (i j : ℕ) → i < j → j < p → index i < index j
     pub low : b.initials.count ≤ least
-
-  pub rising_none : Rising 0 b.initials.count
-  rising_none = record { most = omega arith; above = λ q lt. absurd (omega arith); below = λ q lt. absurd (omega arith); rise = λ i j ij lt. absurd (omega arith); low = omega arith }
-
-  pub rising-more : (p least bits : ℕ) → Rising p least → p < b.records.count → bits ≡ index p → least ≤ bits → Rising (p + 1) (bits + 1)
-  rising-more p least bits r less is high =
-      let low = r.low in
-      record {
-        most = omega (arith, less);
-        above = λ q lt. below_suc q p (omega (arith, lt)) (λ last. subst (λ (k : ℕ). b.initials.count ≤ index k) (sym last) (omega (arith, is, high, low))) (λ before. r.above q before);
-        below = λ q lt. below_suc q p (omega (arith, lt)) (λ last. subst (λ (k : ℕ). index k < bits + 1) (sym last) (omega (arith, is))) (λ before. let under = r.below q before in omega (arith, under, high));
-        rise = λ i j ij lt. below_suc j p (omega (arith, lt))
-            (λ last. subst (λ (k : ℕ). index i < index k) (sym last) (let under = r.below i (omega (arith, ij, last)) in omega (arith, under, high, is)))
-            (λ before. r.rise i j ij before);
-        low = omega (arith, high, low);
-      }
-
-  pub rising-all : (p least : ℕ) → Rising p least → b.records.count ≤ p → leb least 2147483648 ≡ true → IndicesRise s b
-  rising-all p least r all e =
-      let most = leb-true least 2147483648 e in
-      record {
-        positive = λ q lt. let under = r.below q (omega (arith, lt, all)) in omega (arith, under, most);
-        above = λ q lt. r.above q (omega (arith, lt, all));
-        rise = λ i j ij lt. r.rise i j ij (omega (arith, lt, all));
-      }
 
   module _ (rises : IndicesRise s b) where
     ranged : InRange s b b.records.count

@@ -1,5 +1,5 @@
 -- The index scan from two numbers: how many records in front are in range, and the first whose index an earlier one has. Assumes nothing.
-use Prim.Native.Nat.{ℕ, ◌+◌, ◌≤◌, ◌<◌, ◌^◌}
+use Prim.Native.Nat.{ℕ, ◌≤◌, ◌<◌, ◌^◌}
 use native.Mathlib.Omega.{arith}
 use mathlib.Core.Bool.{Bool, true, false, cond}
 use mathlib.Core.List.{List, [], ◌∷◌}
@@ -21,7 +21,7 @@ use Rattle.clip.specs.First.{first}
 use Rattle.clip.specs.Fields.{refusal_of, signed}
 use Rattle.clip.specs.Scan.{index_refusal, scan}
 use Rattle.clip.specs.Section.{additional_at}
-use Rattle.clip.proofs.First.{below_suc, none_or, none-given, none_first, false-any, true-any, first-met}
+use Rattle.clip.proofs.First.{none_or, none-given, none_first, false-any, true-any, first-met}
 use Rattle.clip.proofs.Indexed.{scanned}
 use Rattle.chains.specs.Block.{Fits, kind_of, links}
 use Rattle.chains.specs.Lookup.{Ordered}
@@ -104,18 +104,3 @@ pub record Ranging (s : List ℕ) (b : Block) (p : ℕ) : Type 0 where
   pub most : p ≤ b.records.count
   pub positive : (q : ℕ) → q < p → ((links s b).at q).index < 2147483648
   pub above : (q : ℕ) → q < p → b.initials.count ≤ ((links s b).at q).index
-
-pub ranging : {s : List ℕ} {b : Block} → Ranging s b 0
-ranging = record { most = omega arith; positive = λ q lt. absurd (omega arith); above = λ q lt. absurd (omega arith) }
-
-module _ {s : List ℕ} {b : Block} {p : ℕ} (r : Ranging s b p) where
-  pub ranging-more : p < b.records.count → (bits : ℕ) → bits ≡ ((links s b).at p).index → bits < 2147483648 → b.initials.count ≤ bits → Ranging s b (p + 1)
-  ranging-more less bits is low high =
-      record {
-        most = omega (arith, less);
-        positive = λ q lt. below_suc q p (omega (arith, lt)) (λ last. subst (λ (k : ℕ). ((links s b).at k).index < 2147483648) (sym last) (omega (arith, is, low))) (λ before. r.positive q before);
-        above = λ q lt. below_suc q p (omega (arith, lt)) (λ last. subst (λ (k : ℕ). b.initials.count ≤ ((links s b).at k).index) (sym last) (omega (arith, is, high))) (λ before. r.above q before);
-      }
-
-  pub out_of_range : (p < b.records.count → (2147483648 ≤ ((links s b).at p).index) ⊎ (((links s b).at p).index < b.initials.count)) → InRange s b p
-  out_of_range next = record { most = r.most; positive = r.positive; above = r.above; next = next }

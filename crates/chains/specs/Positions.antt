@@ -1,7 +1,11 @@
--- What is left of a chain that is followed. Definitions only.
+-- The records of a chain, and what is left of them where it is followed. Definitions only.
 use Rattle.std.specs.Prelude.{ℕ, List, drop}
 use Rattle.chains.specs.Chain.{chain_at}
+use Rattle.chains.specs.declared.chain.Chain.{Chain}
 use Rattle.chains.specs.declared.positions.Positions.{Positions}
 
+abbrev pub records_of : Chain → List ℕ
+records_of c = chain_at c.indexed.records.section.now c.indexed.records.block c.track
+
 abbrev pub positions_left : Positions → List ℕ
-positions_left p = drop p.taken (chain_at p.chain.indexed.records.section.now p.chain.indexed.records.block p.chain.track)
+positions_left p = drop p.taken (records_of p.chain)

@@ -10,7 +10,8 @@ use binary::numbers;
 use order::field::Field;
 use std::fmt;
 
-// Two kinds and no more, matched where their bodies differ: a type parameter would make two copies of every walk.
+// Two kinds and no more, matched where their bodies differ: a type parameter would stand on every struct and function above, and make two
+// copies of every walk.
 #[derive(Clone, Copy, Debug, PartialEq, Eq)]
 pub enum Kind {
     Bone,
@@ -72,7 +73,8 @@ impl<'a> Records<'a> {
         numbers::u32_at(self.section, place(f, p) + bytes)
     }
 
-    // The numbers of the additional record at a position.
+    // The numbers of the additional record at a position. That it is below the count is asked as a slice asks it of an index: a struct of
+    // the records and a position would be made anew at each link, to be asked once.
     pub fn index_at(&self, p: usize) -> u32
         requires { p < self.now.block.records.count }
         ensures { result ≡ ((links self.now.section.now self.now.block).at p).index }

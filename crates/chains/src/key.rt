@@ -13,8 +13,10 @@ pub struct Key<'a> {
     pub ghost whole: { at + body_size kind ≤ length section.now },
 }
 
+// The two calls are alike in shape alone: each names the fields and the count of its own block.
 impl<'a> Records<'a> {
     // The key of a track's initial record.
+    #[tactic(auto, using(crate::proofs::Places::places), unfolding(clip::specs::Section::initial_at))]
     pub fn initial_key(&self, track: usize) -> Key<'a>
         requires { track < self.now.block.initials.count }
         ensures section { result.section.now ≡ self.now.section.now }
@@ -31,6 +33,7 @@ impl<'a> Records<'a> {
     }
 
     // The key of the additional record at a position.
+    #[tactic(auto, using(crate::proofs::Places::places), unfolding(clip::specs::Section::additional_at))]
     pub fn key(&self, p: usize) -> Key<'a>
         requires { p < self.now.block.records.count }
         ensures section { result.section.now ≡ self.now.section.now }

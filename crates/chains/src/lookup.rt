@@ -20,6 +20,7 @@ pub struct Indexed<'a> {
 }
 
 impl<'a> Indexed<'a> {
+    #[tactic(auto, using(crate::proofs::ByIndex::lookups))]
     fn by_index(&self, link: u32) -> Option<Standing>
         ensures { found_read result ≡ record_of (links self.now.records.section.now self.now.records.block) link }
     {
@@ -38,6 +39,7 @@ impl<'a> Indexed<'a> {
     }
 
     // The guess first: if the record that stands there bears the link, no other one does.
+    #[tactic(auto, using(crate::proofs::ByIndex::lookups))]
     pub fn lookup(&self, link: u32, near: Near) -> Option<Standing>
         ensures { found_read result ≡ record_of (links self.now.records.section.now self.now.records.block) link }
     {

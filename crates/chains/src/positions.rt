@@ -39,11 +39,10 @@ impl<'a> Iterator for Positions<'a> {
 }
 
 impl<'a> Chain<'a> {
-    ghost use Rattle.chains.specs.Chain.{chain_at};
-    ghost use Rattle.chains.specs.Positions.{positions_left};
+    ghost use Rattle.chains.specs.Positions.{positions_left, records_of};
 
     pub fn positions(&self) -> Positions<'a>
-        ensures { positions_left result ≡ chain_at self.now.indexed.records.section.now self.now.indexed.records.block self.now.track }
+        ensures { positions_left result ≡ records_of self.now }
     {
         Positions {
             chain: *self,

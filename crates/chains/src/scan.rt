@@ -33,7 +33,7 @@ fn in_range(records: &Records) -> usize
 {
     for p in 0..records.block.records.count {
         let index = records.index_at(p);
-        if 2147483648 <= index {
+        if index.cast_signed() < 0 {
             return p;
         }
         if (index as usize) < records.block.initials.count {
@@ -43,7 +43,8 @@ fn in_range(records: &Records) -> usize
     records.block.records.count
 }
 
-// 3 and 4 are met before 5 at a record, and a repeat at a record before it is met earlier.
+// 3 and 4 are met before 5 at a record, and a repeat at a record before it is met earlier. The length of the slots is a clause here, below
+// and in walk, since these functions write them.
 fn scan_any(records: &Records, slots: &mut [u16]) -> Result<(), Fault>
     requires { length slots.old ≡ records.now.block.records.count }
     ensures result_value { met_read (kind_of records.now.block.kind) records.now.block.initials.count result ≡ scan (kind_of records.now.block.kind) (links records.now.section.now records.now.block) }
@@ -61,7 +62,7 @@ fn scan_any(records: &Records, slots: &mut [u16]) -> Result<(), Fault>
     }
     if passed < records.block.records.count {
         let index = records.index_at(passed);
-        if 2147483648 <= index {
+        if index.cast_signed() < 0 {
             return Err(Fault::NegativeIndex(index));
         }
         return Err(Fault::IndexBelowCount(index));

@@ -32,7 +32,8 @@ impl<'a> Indexed<'a> {
         let mut expected = track as u32;
         let mut n = 0;
         let mut near = Near::default();
-        // No `positions`: whether the chain ends is found out here, where each link is looked up and tested.
+        // No `positions`: whether the chain ends is found out here, where each link is looked up and tested. The step is two lines, here, in
+        // `positions` and in marks: a cursor's method would have to be given the records and the place found.
         while link != 0 {
             let Some(at) = indexed.lookup(link, near) else {
                 return Err(Fault::Missing(track, link));

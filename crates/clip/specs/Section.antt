@@ -1,7 +1,7 @@
 -- The build fields of a model section's records, by document 01's record table, and the build of a section. Definitions only.
 use Rattle.std.specs.Prelude.{ℕ, zero, suc, ◌+◌, ◌*◌, List, [], ◌∷◌, ◌++◌, get_or}
 use Rattle.std.proofs.Math.Option.{Option}
-use Rattle.layout.specs.Walk.{Refusal, u32_at}
+use Rattle.layout.specs.Walk.{Refusal, u32_at, bytes_at}
 use Rattle.layout.specs.Records.{size}
 use Rattle.layout.specs.Records as Table
 use Rattle.section.specs.declared.keyframes.Keyframes.{Keyframes}
@@ -10,11 +10,6 @@ use Rattle.clip.specs.First.{◌or◌}
 use Rattle.clip.specs.Fields.{Initial, Additional, BoneBody, Records, bone, morph}
 use Rattle.clip.specs.Keys.{bone_test, morph_test}
 use Rattle.clip.specs.Build.{build_refusal, links_followed, loose}
-
--- n bytes from a place on.
-unfoldable pub bytes_at : List ℕ → ℕ → ℕ → List ℕ
-bytes_at s at zero = []
-bytes_at s at (suc n) = bytes_at s at n ++ get_or s (at + n) 0 ∷ []
 
 -- "interpolation 16 bytes, translation 3 f32, orientation 4 f32"
 unfoldable pub bone_body : List ℕ → ℕ → BoneBody

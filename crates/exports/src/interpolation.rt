@@ -6,9 +6,8 @@ ghost use Rattle.lists.specs.Keyframes.{bone_keyframe};
 ghost use Rattle.lists.specs.Parts.{payload_or};
 ghost use Rattle.tracks.specs.Camera.{camera_keyframe, curves_part};
 
-use lists::keyframe;
+use lists::interpolation;
 use numbers::put;
-use records::bone::PmmDocumentBoneKeyframeSummary;
 use tracks::camera;
 
 #[unsafe(no_mangle)]
@@ -27,13 +26,6 @@ pub extern "C" fn limdroven_camera_interpolation(
     )
 }
 
-// The first 16 bytes of a bone record's payload.
-fn put_curves(output: &mut [u8], payload: &[u8]) -> usize
-    ensures { Hands (take 16 payload.now) output.old result output.new }
-{
-    put::put_part(output, &payload[..payload.len().min(16)])
-}
-
 // The curves of x, y, z and rotation, one behind the other; nothing where the record is refused.
 #[unsafe(no_mangle)]
 pub extern "C" fn limdroven_bone_interpolation(
@@ -45,8 +37,8 @@ pub extern "C" fn limdroven_bone_interpolation(
 ) -> usize
     ensures { Hands (take 16 (payload_or (λ b. b.span) (bone_keyframe edition1 include_index number section.now start) section.now)) output.old result output.new }
 {
-    put_curves(
+    put::put_part(
         output,
-        keyframe::payload::<PmmDocumentBoneKeyframeSummary>(section, start, include_index, number),
+        interpolation::bone_curves(section, start, include_index, number),
     )
 }

@@ -52,3 +52,5 @@ module _ (xs : List ℕ) (x : ℕ) {r : Bool} (tested : r ≡ eqb (digit (get_or
             ∙ digit-other place (x % 16) (y % 16) (λ f. other (omega (arith, e, f))) down
             ∙ ap (λ (i : ℕ). digit (get_or xs i 0) (y % 16)) (sym e))
         same y other (no apart) = ap (λ (w : ℕ). eqb (digit w (y % 16)) 1) (get_or-set_other xs (x / 16) (y / 16) (place + weight) 0 apart)
+
+pub ruleset raise = (raised-before, sum_fits)

@@ -1,12 +1,6 @@
-// Flags in the bits of a slice, cleared and raised. Each is one bit, so a place holds 16 of them.
-ghost use Rattle.std.specs.Prelude.{◌≡◌, ◌*◌, ◌<◌, ◌^◌, eqb, length, replicate};
+// Flags in the bits of a slice, raised one by one; `fill(0)` clears them. Each is one bit, so a place holds 16 of them.
+ghost use Rattle.std.specs.Prelude.{◌≡◌, ◌*◌, ◌<◌, ◌^◌, eqb, length};
 ghost use Rattle.flags.specs.Flags.{digit, Raised};
-
-pub fn clear(flags: &mut [u16])
-    ensures { flags.new ≡ replicate (length flags.old) 0 }
-{
-    flags.fill(0);
-}
 
 fn is_up(place: u16, bit: u16) -> bool
     requires { bit < 16 }
@@ -23,6 +17,7 @@ fn weight(bit: u16) -> u16
 }
 
 // Whether a number's flag is up. It is from now on.
+#[tactic(auto, using(crate::proofs::Raising::raise))]
 pub fn raise(flags: &mut [u16], x: usize) -> bool
     requires { x < 16 * length flags.old }
     ensures { Raised x flags.old flags.new result }

@@ -6,7 +6,7 @@ use mathlib.Core.Bool.{Bool, true, false}
 use mathlib.Core.List.{List}
 use mathlib.Core.Path.{◌≡◌, refl, sym, ap, ◌∙◌}
 use Rattle.std.specs.Prelude.{Option, Some, None}
-use Rattle.layout.specs.Walk.{Reader, ◌>>=◌, ◌>>◌, give, here, fine, u32_at, u32, bool, block}
+use Rattle.layout.specs.Walk.{Reader, ◌>>=◌, ◌>>◌, give, here, fine, u32_at, u32, bool, block, bytes_at}
 use Rattle.layout.proofs.Inversion.{came, Was, item-was}
 use Rattle.records.specs.Base.{index_bits, base_bits}
 use Rattle.records.specs.Pose.{pose_bits, pose_of, float}
@@ -17,7 +17,7 @@ use Rattle.records.specs.declared.bone.BoneBits.{BoneBits}
 use Rattle.records.specs.declared.morph.MorphBits.{MorphBits}
 use Rattle.clip.specs.Fields.{Initial, Additional, BoneBody}
 use Rattle.clip.specs.Keys.{posed, float_at}
-use Rattle.clip.specs.Section.{bytes_at, bone_body, morph_body, initial_at, additional_at}
+use Rattle.clip.specs.Section.{bone_body, morph_body, initial_at, additional_at}
 use Rattle.keys.specs.Words.{words}
 use Rattle.keys.proofs.Bodies.{pose-is, weight_is}
 use Rattle.keys.proofs.ItemsRead.{number-was, pose-was}

@@ -35,3 +35,5 @@ module _ (w : Float) (f : Bool) where
   pub refused-14 : f ≡ finite w → f ≡ false → some 14 ≡ weight_asked w
   unfolding weight_asked
   refused-14 is seen = rw (sym is ∙ seen)
+
+pub ruleset poses = (refused-12, refused-13, pose-fine)

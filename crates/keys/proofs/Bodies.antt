@@ -1,17 +1,16 @@
 -- The bytes of a record's body are those of the section: byte by byte, and four at a time. Assumes nothing.
-use Prim.Native.Nat.{ℕ, zero, suc, ◌+◌, ◌-◌, ◌≤◌, ◌<◌}
+use Prim.Native.Nat.{ℕ, zero, suc, ◌+◌, ◌≤◌, ◌<◌}
 use native.Mathlib.Nat.{add_assoc, add-zero}
 use native.Mathlib.Decide.{ℕ_discrete}
 use native.Mathlib.Omega.{arith}
 use mathlib.Core.List.{List, [], ◌∷◌, ◌++◌}
 use mathlib.Core.Path.{◌≡◌, refl, sym, ap, ◌∙◌, subst}
-use lib.ListN.{length, get_or, take, drop, length-append, length-drop, get_or-append}
-use lib.Seq.{get_or_at, take-suc}
-use Rattle.std.proofs.lemmas.List.{get_or-drop}
-use Rattle.layout.specs.Walk.{u32_at}
+use lib.ListN.{length, get_or, length-append, get_or-append}
+use lib.Seq.{get_or_at}
+use Rattle.layout.specs.Walk.{u32_at, bytes_at}
 use Rattle.records.specs.Pose.{float, pose_of}
 use Rattle.clip.specs.Keys.{posed, float_at}
-use Rattle.clip.specs.Section.{bytes_at, bone_body, morph_body}
+use Rattle.clip.specs.Section.{bone_body, morph_body}
 use Rattle.keys.specs.Words.{words}
 
 pub length-bytes_at : (s : List ℕ) (at n : ℕ) → length (bytes_at s at n) ≡ n
@@ -33,19 +32,6 @@ get_or-bytes_at s at (suc n) i lt = go (ℕ_discrete i n) (λ less. get_or-bytes
         let less : i < n = omega arith in
         let inside : i < length (bytes_at s at n) = rw (length-bytes_at s at n) less in
         get_or-append (bytes_at s at n) (get_or s (at + n) 0 ∷ []) 0 i inside ∙ rest less
-
--- A part of the section.
-first_bytes : (s : List ℕ) (at n : ℕ) → at + n ≤ length s → take n (drop at s) ≡ bytes_at s at n
-unfolding bytes_at
-first_bytes s at zero fits = refl
-first_bytes s at (suc n) fits =
-    let long = length-drop at s in
-    take-suc (drop at s) n 0 (omega (arith, long)) ∙ rw (first_bytes s at n (omega arith), get_or-drop at s n 0)
-
-pub sliced : (s : List ℕ) (at n : ℕ) → at + n ≤ length s → take (at + n - at) (drop at s) ≡ bytes_at s at n
-sliced s at n fits =
-    let many : at + n - at ≡ n = omega arith in
-    ap (λ (m : ℕ). take m (drop at s)) many ∙ first_bytes s at n fits
 
 -- Four bytes of a body, by their place in it and in the section.
 pub word_in : (s : List ℕ) (at n i : ℕ) → i + 4 ≤ n → u32_at (bytes_at s at n) i ≡ u32_at s (at + i)

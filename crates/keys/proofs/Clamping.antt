@@ -1,20 +1,16 @@
 -- Curves that clamping leaves as they are, and their bytes in the section. Assumes nothing.
 use Prim.Native.Nat.{ℕ, ◌+◌}
 use native.Mathlib.Nat.{add_assoc, add-zero}
-use native.Mathlib.Omega.{arith}
 use mathlib.Core.Bool.{Bool, true, false, ◌&&◌, cond}
 use mathlib.Core.List.{List, [], ◌++◌}
 use mathlib.Core.Path.{◌≡◌, refl, ap}
 use lib.ListN.{get_or}
+use Rattle.std.proofs.lemmas.Bool.{and_parts}
+use Rattle.layout.specs.Walk.{bytes_at}
 use Rattle.records.specs.Curves.{curves_at}
-use Rattle.clip.specs.Section.{bytes_at}
 use Rattle.keys.specs.Placed.{Room, Wrote, three_curves, curve_bytes}
 use Rattle.keys.specs.declared.plain.BonePlain.{BonePlain}
 use Rattle.keys.proofs.Placing.{wrote_none, room-front, wrote_then, wrote-three}
-
-both : (p q : Bool) → p && q ≡ true → (p ≡ true) × (q ≡ true)
-both true q e = (refl, e)
-both false q e = absurd (let z : ◌≡◌ {A = ℕ} 0 1 = cc in omega arith)
 
 module _ (s : List ℕ) (at : ℕ) where
   -- The bytes of the curves stand one behind the other.
@@ -47,4 +43,4 @@ module _ (p : BonePlain) (cs : List (List ℕ)) (place : ℕ) (old : List ℕ) w
 
 -- Plain curves are not written.
 pub none_written : (p : BonePlain) (cs : List (List ℕ)) (place : ℕ) (old : List ℕ) → p.curves && p.rotation ≡ true → Wrote place (curve_bytes p cs) old place old
-none_written p cs place old e = let plain = both p.curves p.rotation e in rw (plain.0, plain.1) (wrote_none place old)
+none_written p cs place old e = let plain = and_parts p.curves p.rotation e in rw (plain.0, plain.1) (wrote_none place old)

@@ -4,18 +4,19 @@ use native.Mathlib.Nat.{add_assoc, add-zero}
 use native.Mathlib.Decide.{ℕ_discrete}
 use native.Mathlib.Omega.{arith}
 use borrow.Author.Tests.{eq-eqb, ne_eqb}
-use mathlib.Core.Bool.{Bool, true, false, ◌&&◌, cond}
+use mathlib.Core.Bool.{Bool, true, false, ◌&&◌, cond, and-true, and_assoc}
 use mathlib.Core.List.{List, [], ◌∷◌, ◌++◌}
 use mathlib.Core.Path.{◌≡◌, refl, sym, ap, ◌∙◌}
 use lib.Dec.{eqb}
 use lib.Ieee.{eq}
 use lib.ListN.{length, get_or, take, drop}
+use Rattle.layout.specs.Walk.{bytes_at}
 use Rattle.records.specs.Curves.{curve_at}
 use Rattle.records.specs.Pose.{float}
 use Rattle.records.specs.declared.pose.Pose.{Pose}
 use Rattle.clip.specs.Fields.{BoneBody}
 use Rattle.clip.specs.Keys.{posed, float_at}
-use Rattle.clip.specs.Section.{bytes_at, bone_body, morph_body}
+use Rattle.clip.specs.Section.{bone_body, morph_body}
 use Rattle.strip.specs.Plain.{one, plain_float, plain_floats, plain_bytes, plain_curve, plain_curves, clamped, bone_groups, bone_fields, morph_groups, morph_fields}
 use Rattle.strip.specs.Keys.{map_byte}
 use Rattle.keys.specs.Plain.{plain_in, bone_plain, standing}
@@ -25,10 +26,6 @@ all3 false b c = refl
 all3 true false c = refl
 all3 true true false = refl
 all3 true true true = refl
-
-and-true : (b : Bool) → b && true ≡ b
-and-true true = refl
-and-true false = refl
 
 all4 : (a b c d : Bool) → a && b && c && d ≡ a && (b && (c && (d && true)))
 all4 false b c d = refl
@@ -71,10 +68,6 @@ plain_word a b c d la lb lc ld =
     (lowest-equal b 20 (c + 256 * d) 27499 lb (omega arith)
     ∙ ap (λ (t : Bool). eqb b 20 && t) (lowest-equal c 107 d 107 lc (omega arith)))
     ∙ rw (clamped-equal a 20 (omega arith), clamped-equal b 20 (omega arith), clamped-equal c 107 (omega arith), clamped-equal d 107 (omega arith)) (ap (λ (t : Bool). eqb (min a 127) 20 && (eqb (min b 127) 20 && (eqb (min c 127) 107 && t))) (sym (and-true (eqb (min d 127) 107))))
-
-and_assoc : (a b c : Bool) → a && b && c ≡ a && (b && c)
-and_assoc true b c = refl
-and_assoc false b c = refl
 
 -- Plain bytes in two parts.
 plain-parts : (ps xs qs ys : List ℕ) → length ps ≡ length xs → plain_bytes (ps ++ qs) (xs ++ ys) ≡ plain_bytes ps xs && plain_bytes qs ys
@@ -146,11 +139,7 @@ bone-map-is s at =
 
 pub morph-plain-is : (s : List ℕ) (at : ℕ) → eq (float_at (morph_body s at) 0) (float 0) ≡ plain_in morph_groups (morph_fields (morph_body s at)) 0
 unfolding plain_floats plain_float
-morph-plain-is s at = last (eq (float_at (morph_body s at) 0) (float 0))
-  where
-    last : (b : Bool) → b ≡ b && true
-    last true = refl
-    last false = refl
+morph-plain-is s at = sym (and-true (eq (float_at (morph_body s at) 0) (float 0)))
 
 pub morph-map-is : (s : List ℕ) (at : ℕ) → cond (plain_in morph_groups (morph_fields (morph_body s at)) 0) 0 1 ≡ map_byte morph_groups (morph_fields (morph_body s at))
 unfolding map_byte
@@ -160,3 +149,5 @@ morph-map-is s at = omega arith
 pub at_most : (b : Bool) (n : ℕ) → cond b 0 n ≤ n
 at_most true n = omega arith
 at_most false n = omega arith
+
+pub ruleset groups = (bone-plain-is, bone-map-is, morph-plain-is, morph-map-is)

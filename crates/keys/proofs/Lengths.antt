@@ -1,13 +1,14 @@
 -- How long a key is, and the parts that it is written in. Assumes nothing.
-use Prim.Native.Nat.{ℕ, ◌+◌, ◌≤◌}
+use Prim.Native.Nat.{ℕ, ◌+◌}
 use native.Mathlib.Omega.{arith}
 use mathlib.Core.Bool.{Bool, true, false, cond}
 use mathlib.Core.List.{List, [], ◌∷◌, ◌++◌, map, append_assoc, append-nil}
 use mathlib.Core.Path.{◌≡◌, refl, sym, ◌∙◌}
 use lib.ListN.{length, get_or, length-append}
+use Rattle.layout.specs.Walk.{bytes_at}
 use Rattle.records.specs.Curves.{curves_at}
 use Rattle.clip.specs.Keys.{Key}
-use Rattle.clip.specs.Section.{bone_body, morph_body, bytes_at}
+use Rattle.clip.specs.Section.{bone_body, morph_body}
 use Rattle.strip.specs.Plain.{Group, clamped, bone_groups, bone_fields, morph_groups, morph_fields}
 use Rattle.strip.specs.Keys.{little_endian, map_byte, present, key_bytes}
 use Rattle.strip.proofs.Bytes.{length-little_endian}
@@ -16,7 +17,7 @@ use Rattle.strip.proofs.Written.{bone-shaped, morph-shaped}
 use Rattle.keys.specs.Plain.{plain_in, bone_plain, standing}
 use Rattle.keys.specs.Placed.{Room, head_bytes, pose_bytes, three_curves, curve_bytes, bone_key_bytes, morph_key_bytes}
 use Rattle.keys.specs.declared.plain.BonePlain.{BonePlain}
-use Rattle.keys.proofs.Groups.{first-curves, fourth-curve, bone-map-is, morph-map-is, at_most}
+use Rattle.keys.proofs.Groups.{first-curves, fourth-curve, bone-map-is, morph-map-is}
 
 -- The widths of the groups that are not plain.
 abbrev pub standing_widths : List Group → List (List ℕ) → ℕ
@@ -55,20 +56,6 @@ module _ (s : List ℕ) (at frame : ℕ) where
   pub morph-length-is : 5 + cond (plain_in morph_groups (morph_fields (morph_body s at)) 0) 0 4 ≡ length (morph_key_bytes s at frame)
   morph-length-is = let l = key-length morph_groups morph_fields (record { frame = frame; body = morph_body s at }) (morph-shaped s at) in omega (arith, l)
 
-  pub bone-most : length (bone_key_bytes s at frame) ≤ 49
-  bone-most =
-      let p = bone_plain (bone_body s at) in
-      omega (arith, bone-length-is, at_most p.translation 12, at_most p.orientation 16, at_most p.curves 12, at_most p.rotation 4)
-
-  pub morph-most : length (morph_key_bytes s at frame) ≤ 9
-  morph-most = omega (arith, morph-length-is, at_most (plain_in morph_groups (morph_fields (morph_body s at)) 0) 4)
-
-  pub bone-any-frame : length (bone_key_bytes s at frame) ≡ length (bone_key_bytes s at 0)
-  bone-any-frame = any-frame bone_groups bone_fields frame 0 (bone_body s at) (bone-shaped s at)
-
-  pub morph-any-frame : length (morph_key_bytes s at frame) ≡ length (morph_key_bytes s at 0)
-  morph-any-frame = any-frame morph_groups morph_fields frame 0 (morph_body s at) (morph-shaped s at)
-
 regroup : (e : List ℕ) (m : ℕ) (a b c d : List ℕ) → e ++ m ∷ [] ++ (a ++ b) ++ (c ++ d) ≡ e ++ m ∷ (a ++ (b ++ (c ++ (d ++ []))))
 regroup e m a b c d = simp (append_assoc, append-nil)
 
@@ -97,3 +84,5 @@ module _ (s : List ℕ) (at frame : ℕ) where
 
     pub morph-room : (place : ℕ) (old : List ℕ) → plain ≡ plain_in morph_groups (morph_fields (morph_body s at)) 0 → byte ≡ cond plain 0 1 → Room place (morph_key_bytes s at frame) old → Room place (head_bytes frame byte ++ cond plain [] (morph_body s at)) old
     morph-room place old pe be room = rw (morph-parts pe be) room
+
+pub ruleset lengths = (bone-length-is, morph-length-is)

@@ -43,3 +43,5 @@ head-room old place frame map room =
     let four = length-little_endian 4 frame in
     let sum = length-append (little_endian 4 frame) (map ∷ []) in
     omega (arith, four, sum)
+
+pub ruleset stores = (put-wrote, two-bytes)

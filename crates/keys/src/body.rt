@@ -2,7 +2,7 @@
 // orientation 4 f32", or "weight f32".
 ghost use Rattle.std.specs.Prelude.{◌≡◌, ◌+◌, ◌≤◌, length};
 ghost use Rattle.clip.specs.Keys.{float_at, posed};
-ghost use Rattle.clip.specs.Section.{bone_body, morph_body, bytes_at};
+ghost use Rattle.clip.specs.Section.{bone_body, morph_body};
 
 use binary::numbers;
 use records::pose::Pose;
@@ -22,16 +22,6 @@ pub struct MorphBody<'a> {
     ghost whole: { at + 4 ≤ length section.now },
 }
 
-// So many bytes of the section, by value: what is written into an output is read before.
-pub fn bytes<const N: usize>(s: &[u8], at: usize) -> [u8; N]
-    requires { at + N ≤ length s.now }
-    ensures { result ≡ bytes_at s.now at N }
-{
-    let mut bytes = [0; N];
-    bytes.copy_from_slice(&s[at..at + N]);
-    bytes
-}
-
 fn float_at(bytes: &[u8], at: usize) -> f32
     requires { at + 4 ≤ length bytes.now }
     ensures { result ≡ float_at bytes.now at }
@@ -44,13 +34,13 @@ impl<'a> BoneBody<'a> {
     pub fn translation(&self) -> [u8; 12]
         ensures { result ≡ (bone_body self.now.section.now self.now.at).translation }
     {
-        bytes(self.section, self.at + 16)
+        numbers::bytes(self.section, self.at + 16)
     }
 
     pub fn orientation(&self) -> [u8; 16]
         ensures { result ≡ (bone_body self.now.section.now self.now.at).orientation }
     {
-        bytes(self.section, self.at + 28)
+        numbers::bytes(self.section, self.at + 28)
     }
 
     pub fn pose(&self) -> Pose
@@ -75,7 +65,7 @@ impl<'a> MorphBody<'a> {
     pub fn weight_bytes(&self) -> [u8; 4]
         ensures { result ≡ morph_body self.now.section.now self.now.at }
     {
-        bytes(self.section, self.at)
+        numbers::bytes(self.section, self.at)
     }
 
     pub fn weight(&self) -> f32

@@ -12,6 +12,7 @@ pub fn clamped(curve: [u8; 4]) -> [u8; 4]
     curve.map(|byte| byte.min(127))
 }
 
+// Byte by byte: by value, as `bytes` of binary has them, all four curves take 25 instructions more.
 fn curve_in_range(s: &[u8], at: usize) -> bool
     requires { at + 4 ≤ length s.now }
     ensures { result ≡ true → clamped (curve_at s.now at) ≡ curve_at s.now at }
@@ -27,19 +28,17 @@ impl<'a> BoneBody<'a> {
     pub fn curves(&self) -> [[u8; 4]; 4]
         ensures { result ≡ map clamped (curves_at self.now.section.now self.now.at) }
     {
-        let [x, y, z, rotation] = curves::curves_at(self.section, self.at);
-        [clamped(x), clamped(y), clamped(z), clamped(rotation)]
+        curves::curves_at(self.section, self.at).map(clamped)
     }
-}
 
-// Whether clamping leaves all four curves as they are. MMD writes no byte above 127.
-pub fn curves_in_range(s: &[u8], at: usize) -> bool
-    requires { at + 16 ≤ length s.now }
-    ensures { result ≡ true → map clamped (curves_at s.now at) ≡ curves_at s.now at }
-{
-    let x = curve_in_range(s, at);
-    let y = curve_in_range(s, at + 4);
-    let z = curve_in_range(s, at + 8);
-    let rotation = curve_in_range(s, at + 12);
-    x & y & z & rotation
+    // Whether clamping leaves all four curves as they are. MMD writes no byte above 127.
+    pub fn curves_in_range(&self) -> bool
+        ensures { result ≡ true → map clamped (curves_at self.now.section.now self.now.at) ≡ curves_at self.now.section.now self.now.at }
+    {
+        let x = curve_in_range(self.section, self.at);
+        let y = curve_in_range(self.section, self.at + 4);
+        let z = curve_in_range(self.section, self.at + 8);
+        let rotation = curve_in_range(self.section, self.at + 12);
+        x & y & z & rotation
+    }
 }

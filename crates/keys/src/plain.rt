@@ -5,8 +5,7 @@ ghost use Rattle.std.specs.Float.Ieee.{eq};
 ghost use Rattle.records.specs.Curves.{curve_at};
 ghost use Rattle.records.specs.Pose.{float};
 ghost use Rattle.clip.specs.Section.{bone_body, morph_body};
-ghost use Rattle.strip.specs.Plain.{one, plain_curve, plain_bytes, clamped, bone_groups, bone_fields, morph_groups, morph_fields};
-ghost use Rattle.strip.specs.Keys.{map_byte};
+ghost use Rattle.strip.specs.Plain.{one, plain_curve, plain_bytes, clamped, morph_groups, morph_fields};
 ghost use Rattle.keys.specs.Plain.{plain_in, bone_plain, standing};
 
 use crate::body::{BoneBody, MorphBody};
@@ -42,6 +41,7 @@ fn plain_orientation(pose: Pose) -> bool
 }
 
 // The bytes 20, 20, 107, 107 as one number. They are below 127, so the curve need not be clamped to be compared.
+#[tactic(auto, using(crate::proofs::Groups::plain_word))]
 fn plain_curve(s: &[u8], at: usize) -> bool
     requires { at + 4 ≤ length s.now }
     ensures { result ≡ plain_bytes plain_curve (clamped (curve_at s.now at)) }
@@ -80,6 +80,7 @@ impl BonePlain {
 }
 
 impl<'a> BoneBody<'a> {
+    #[tactic(auto, using(crate::proofs::Groups::groups))]
     pub fn plain(&self) -> BonePlain
         ensures { result ≡ bone_plain (bone_body self.now.section.now self.now.at) }
     {
@@ -95,24 +96,13 @@ impl<'a> BoneBody<'a> {
             rotation,
         }
     }
-
-    pub fn map(&self) -> u8
-        ensures { result ≡ map_byte bone_groups (bone_fields (bone_body self.now.section.now self.now.at)) }
-    {
-        self.plain().standing(1, 2, 4, 8)
-    }
 }
 
 impl<'a> MorphBody<'a> {
+    #[tactic(auto, using(crate::proofs::Groups::groups))]
     pub fn plain(&self) -> bool
         ensures { result ≡ plain_in morph_groups (morph_fields (morph_body self.now.section.now self.now.at)) 0 }
     {
         self.weight() == 0.0
-    }
-
-    pub fn map(&self) -> u8
-        ensures { result ≡ map_byte morph_groups (morph_fields (morph_body self.now.section.now self.now.at)) }
-    {
-        unless(self.plain(), 1)
     }
 }

@@ -61,6 +61,7 @@ fn orientation_fails(pose: Pose) -> bool
     !all | (squared_length(x, y, z, w) <= 1.1920929e-7)
 }
 
+#[tactic(auto, using(crate::proofs::Asking::poses))]
 pub fn pose_asked(pose: Pose) -> Result<(), PoseFault>
     ensures { asked_read result ≡ pose_asked pose }
 {

@@ -8,8 +8,9 @@ ghost use Rattle.keys.specs.Placed.{placed, Room, Wrote, head_bytes, curve_bytes
 
 use crate::body::{BoneBody, MorphBody};
 use crate::plain::BonePlain;
-use crate::{curves, fields, plain};
+use crate::{fields, plain};
 
+#[tactic(auto, using(crate::proofs::Stores::stores))]
 pub fn write_count(output: &mut [u8], place: usize, n: usize)
     requires { place + 2 ≤ length output.old }
     ensures { output.new ≡ placed place (little_endian 2 n) output.old }
@@ -28,6 +29,7 @@ fn write_head(output: &mut [u8], place: usize, frame: u32, map: u8) -> usize
 
 impl<'a> BoneBody<'a> {
     // As long for every frame.
+    #[tactic(auto, using(crate::proofs::Lengths::lengths))]
     pub fn key_length(&self) -> usize
         ensures { result ≡ length (bone_key_bytes self.now.section.now self.now.at 0) }
     {
@@ -43,7 +45,7 @@ impl<'a> BoneBody<'a> {
         if plain.curves & plain.rotation {
             return place;
         }
-        if curves::curves_in_range(self.section, self.at) {
+        if self.curves_in_range() {
             return plain.copy_curves(self, output, place);
         }
         plain.write_curves(self.curves(), output, place)
@@ -62,6 +64,7 @@ impl<'a> BoneBody<'a> {
 }
 
 impl<'a> MorphBody<'a> {
+    #[tactic(auto, using(crate::proofs::Lengths::lengths))]
     pub fn key_length(&self) -> usize
         ensures { result ≡ length (morph_key_bytes self.now.section.now self.now.at 0) }
     {

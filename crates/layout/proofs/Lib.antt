@@ -1,5 +1,4 @@
 pub mod Steps
-pub mod Entries
 pub mod Inversion
 pub mod Sizes
 pub mod Blocks

@@ -1,6 +1,6 @@
 -- Reading a section item by item, as document 01 describes it: each item stands whole at its offset, or the reading ends there with
 -- refusal 1. Definitions only.
-use Rattle.std.specs.Prelude.{ℕ, zero, suc, ◌+◌, ◌*◌, ◌^◌, ◌-◌, List, [], ◌∷◌, Bool, not, cond, ◌≡◌, length, get_or, take, drop, leb, ltb, eqb, ℤ, pos, Float}
+use Rattle.std.specs.Prelude.{ℕ, zero, suc, ◌+◌, ◌*◌, ◌^◌, ◌-◌, List, [], ◌∷◌, ◌++◌, Bool, not, cond, ◌≡◌, length, get_or, take, drop, leb, ltb, eqb, ℤ, pos, Float}
 use Rattle.std.specs.Float.Ieee.{of_bits}
 use Rattle.std.specs.Float.{binary32}
 use Rattle.std.specs.Int.{w32}
@@ -110,6 +110,11 @@ bytes_of p s = take p.length (drop p.offset s)
 
 abbrev pub body : ℕ → Reader Part
 body width = item width (λ s at. part at width)
+
+-- So many bytes from an offset on.
+unfoldable pub bytes_at : List ℕ → ℕ → ℕ → List ℕ
+bytes_at s at zero = []
+bytes_at s at (suc n) = bytes_at s at n ++ get_or s (at + n) 0 ∷ []
 
 -- A name: length u8, then that many bytes.
 unfoldable pub string : Reader Part

@@ -25,3 +25,5 @@ curves-fit found include_index s b e = go (after found (λ m at. after (bone_bit
         let offset = ap (λ (k : PmmDocumentBoneKeyframeSummary). k.span.payload_offset) (same-value v.rest ∙ same) in
         subst (λ (n : ℕ). n + 16 ≤ length s) offset (interpolation-fits include_index s m.at v.value v.at v.first)
     go (refused why) is e = absurd (let z : ◌≡◌ {A = ℕ} 0 1 = cc in omega arith)
+
+pub ruleset bone_interpolation = (curves-fit)

@@ -1,2 +1,3 @@
 pub mod Spans
 pub mod Curved
+pub mod ModelRecords

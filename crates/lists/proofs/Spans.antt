@@ -1,13 +1,12 @@
 -- Every text stands in the section. Assumes nothing.
-use Prim.Native.Nat.{ℕ, suc, ◌+◌, ◌≤◌, ◌<◌}
+use Prim.Native.Nat.{ℕ, suc, ◌+◌, ◌≤◌}
 use mathlib.Core.Bool.{Bool, true, false, cond}
 use mathlib.Core.List.{List, [], ◌∷◌}
-use mathlib.Core.Path.{◌≡◌, refl, sym, ap, subst, ◌∙◌}
+use mathlib.Core.Path.{◌≡◌, refl, sym, subst, ◌∙◌}
 use native.Mathlib.Omega.{arith}
 use lib.Dec.{eqb, ltb}
-use lib.IntN.{pos}
 use lib.ListN.{length, take, drop, length-take, length-drop}
-use Rattle.layout.specs.Walk.{Walk, fine, refused, refusal, after, item, times, Answer, answered, declined, answer, u8, bytes_of, string, before_zero, fixed_string}
+use Rattle.layout.specs.Walk.{Walk, fine, refused, refusal, after, item, times, answered, answer, u8, bytes_of, string, before_zero, fixed_string}
 use Rattle.layout.specs.declared.Part.{Part}
 use Rattle.layout.proofs.Steps.{whole}
 use Rattle.layout.proofs.Inversion.{came, same-value, item-fits}

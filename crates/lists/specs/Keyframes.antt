@@ -1,13 +1,14 @@
 -- Bone, morph and model records by number. Definitions only.
 use Rattle.std.specs.Prelude.{ℕ, Bool, cond, List as ListOf}
-use Rattle.layout.specs.Walk.{Answer}
+use Rattle.layout.specs.Walk.{Walk, fine, after, Answer}
 use Rattle.records.specs.Keyframes.{bone_bits, bone_of, morph_bits, morph_of, model_bits, model_of}
 use Rattle.records.specs.declared.bone.PmmDocumentBoneKeyframeSummary.{PmmDocumentBoneKeyframeSummary}
 use Rattle.records.specs.declared.morph.PmmDocumentMorphKeyframeSummary.{PmmDocumentMorphKeyframeSummary}
 use Rattle.records.specs.declared.model.PmmDocumentModelKeyframeSummary.{PmmDocumentModelKeyframeSummary}
 use Rattle.section.specs.Limits.{Limits}
-use Rattle.lists.specs.Lists.{nth}
+use Rattle.lists.specs.Lists.{locate, nth}
 use Rattle.lists.specs.declared.lists.List.{List}
+use Rattle.lists.specs.declared.keyframes.ModelRecord.{ModelRecord}
 
 -- Additional records include an index, initial ones do not.
 abbrev pub bone_list : Bool → List
@@ -18,6 +19,12 @@ morph_list include_index = cond include_index List.Morphs List.InitialMorphs
 
 abbrev pub model_list : Bool → List
 model_list include_index = cond include_index List.Models List.InitialModels
+
+-- The model record of a number, the offset behind it, and what its section counts.
+unfoldable pub model_record : Limits → Bool → ℕ → ListOf ℕ → ℕ → Walk ModelRecord
+model_record limits include_index k s start =
+    after (locate limits (model_list include_index) k s start)
+    (λ m at. after (model_bits include_index m.front.counts.constraints m.front.counts.parents s at) (λ b end. fine (record { counts = m.front.counts; at = at; bits = b }) end))
 
 abbrev pub bone_keyframe : Limits → Bool → ℕ → ListOf ℕ → ℕ → Answer PmmDocumentBoneKeyframeSummary
 bone_keyframe limits include_index k =

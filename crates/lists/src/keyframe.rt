@@ -33,7 +33,8 @@ pub trait Keyframe: Copy {
         ensures { result ≡ span_of self };
 }
 
-// The payload of a record, as the part of the section that holds it: empty where the record's own call with the same inputs refuses.
+// The payload of a record, as the part of the section that holds it: empty where the record's own call with the same inputs refuses. The
+// same two arms stand in texts and in tracks, camera: what is read, and which part of it is answered, differ.
 pub fn payload<K: Keyframe>(
     section: &[u8],
     start: usize,
@@ -47,6 +48,6 @@ pub fn payload<K: Keyframe>(
             let span = keyframe.span();
             parts::part(section, span.payload_offset, span.payload_byte_length)
         }
-        Err(_) => &section[..0],
+        Err(_) => &[],
     }
 }

@@ -2,8 +2,7 @@
 ghost use Rattle.std.specs.Prelude.{◌≡◌};
 ghost use Rattle.binary.specs.Answers.{read};
 ghost use Rattle.section.specs.Limits.{edition1};
-ghost use Rattle.lists.specs.Lists.{locate};
-ghost use Rattle.lists.specs.Keyframes.{model_list, bone_keyframe, morph_keyframe, model_keyframe};
+ghost use Rattle.lists.specs.Keyframes.{model_record, bone_keyframe, morph_keyframe, model_keyframe};
 
 use crate::keyframe::Keyframe;
 use crate::lists;
@@ -11,10 +10,10 @@ use crate::lists::List;
 use binary::refusal::{Read, Refusal};
 use records::base::Span;
 use records::bone::PmmDocumentBoneKeyframeSummary;
-use records::model::PmmDocumentModelKeyframeSummary;
+use records::model::{ModelBits, PmmDocumentModelKeyframeSummary};
 use records::morph::PmmDocumentMorphKeyframeSummary;
 use records::{bone, model, morph};
-use section::model::Model;
+use section::names::Counts;
 
 impl Keyframe for PmmDocumentBoneKeyframeSummary {
     ghost answer_of = { bone_keyframe };
@@ -70,20 +69,38 @@ impl Keyframe for PmmDocumentMorphKeyframeSummary {
     }
 }
 
-pub(crate) fn locate_model(
+// A model record, where it stands, and what its section counts.
+#[derive(Clone, Copy)]
+pub struct ModelRecord {
+    pub counts: Counts,
+    pub at: usize,
+    pub bits: ModelBits,
+}
+
+#[tactic(auto, unfolding(crate::specs::Keyframes::model_record))]
+pub(crate) fn read_model_record(
     s: &[u8],
     start: usize,
     include_index: bool,
     number: usize,
-) -> Read<Model>
-    ensures { read result ≡ locate edition1 (model_list include_index) number s.now start }
+) -> Read<ModelRecord>
+    ensures { read result ≡ model_record edition1 include_index number s.now start }
 {
     let list = if include_index {
         List::Models
     } else {
         List::InitialModels
     };
-    lists::locate(s, start, list, number)
+    let (m, at) = lists::locate(s, start, list, number)?;
+    let counts = m.front.counts;
+    let (bits, end) = model::read_model_record(
+        s,
+        at,
+        include_index,
+        counts.constraints,
+        counts.parents,
+    )?;
+    Ok((ModelRecord { counts, at, bits }, end))
 }
 
 impl Keyframe for PmmDocumentModelKeyframeSummary {
@@ -91,24 +108,20 @@ impl Keyframe for PmmDocumentModelKeyframeSummary {
 
     ghost span_of = { λ m. m.span };
 
-    #[tactic(auto, unfolding(layout::specs::Walk::entry_of))]
+    #[tactic(auto, using(crate::proofs::ModelRecords::model_keyframe_is))]
     fn read(
         section: &[u8],
         start: usize,
         include_index: bool,
         number: usize,
     ) -> Result<PmmDocumentModelKeyframeSummary, Refusal> {
-        let (m, at) = locate_model(section, start, include_index, number)?;
-        let constraints = m.front.counts.constraints;
-        let parents = m.front.counts.parents;
-        let (bits, end) = model::read_model_record(
-            section,
-            at,
-            include_index,
-            constraints,
-            parents,
-        )?;
-        Ok(bits.summary(constraints, parents, at, end))
+        let (record, end) = read_model_record(section, start, include_index, number)?;
+        let counts = record.counts;
+        Ok(
+            record
+                .bits
+                .summary(counts.constraints, counts.parents, record.at, end),
+        )
     }
 
     fn span(self) -> Span {

@@ -12,7 +12,7 @@ use records::items;
 use section::model;
 use section::model::Model;
 
-// The lists whose entries have fixed items.
+// The lists whose entries have fixed items: document 01 answers "each list of the summary on its own".
 #[derive(Clone, Copy)]
 pub enum List {
     InitialBones,

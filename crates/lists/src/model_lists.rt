@@ -1,15 +1,14 @@
 // The lists of a model record: a bool for each constraint, a pair for each outside parent.
 ghost use Rattle.std.specs.Prelude.{◌≡◌};
-ghost use Rattle.binary.specs.Answers.{read, said};
+ghost use Rattle.binary.specs.Answers.{said};
 ghost use Rattle.section.specs.Limits.{edition1};
-ghost use Rattle.lists.specs.ModelLists.{flag_bits, pair_bits, pair_of, model_keyframe_constraint_state, model_keyframe_outside_parent};
+ghost use Rattle.lists.specs.ModelLists.{pair_of, model_keyframe_constraint_state, model_keyframe_outside_parent};
 
 use crate::lists::Entries;
 use crate::{keyframes, lists};
-use binary::refusal::{Read, Refusal};
+use binary::refusal::Refusal;
 use binary::{groups, numbers};
-use records::{items, model};
-use section::names::Counts;
+use records::items;
 
 #[derive(Clone, Copy)]
 pub struct PmmDocumentOutsideParentIndexSummary {
@@ -30,56 +29,9 @@ impl From<[u32; 2]> for PmmDocumentOutsideParentIndexSummary {
     }
 }
 
-// In a section of so many constraints and outside parents. This reader and the next differ in the count, the offset, the items and the
-// reader of one: all but the first call.
-#[tactic(auto, unfolding(crate::specs::ModelLists::flag_bits))]
-fn read_flag(s: &[u8], at: usize, include_index: bool, counts: Counts, number: usize) -> Read<bool>
-    ensures { read result ≡ flag_bits include_index counts.constraints counts.parents number s.now at }
-{
-    let (bits, _) = model::read_model_record(
-        s,
-        at,
-        include_index,
-        counts.constraints,
-        counts.parents,
-    )?;
-    let flags = Entries {
-        count: counts.constraints,
-        offset: bits.constraint_states_offset,
-        items: items::constraint_state_items(),
-    };
-    let at = lists::entry(s, &flags, number)?;
-    numbers::read_bool(s, at)
-}
-
-#[tactic(auto, unfolding(crate::specs::ModelLists::pair_bits))]
-fn read_pair(
-    s: &[u8],
-    at: usize,
-    include_index: bool,
-    counts: Counts,
-    number: usize,
-) -> Read<[u32; 2]>
-    ensures { read result ≡ pair_bits include_index counts.constraints counts.parents number s.now at }
-{
-    let (bits, _) = model::read_model_record(
-        s,
-        at,
-        include_index,
-        counts.constraints,
-        counts.parents,
-    )?;
-    let pairs = Entries {
-        count: counts.parents,
-        offset: bits.outside_parent_indices_offset,
-        items: items::pair_items(),
-    };
-    let at = lists::entry(s, &pairs, number)?;
-    groups::read_u32s_le(s, at)
-}
-
-// Bool `entry` of model record `number`.
-#[tactic(auto, unfolding(layout::specs::Walk::entry_of))]
+// Bool `entry` of model record `number`. This call and the next differ in the list, its items and the reader of one, and share the record's
+// reading: a trait for the two would be longer.
+#[tactic(auto, using(crate::proofs::ModelRecords::model_keyframe_constraint_state_is))]
 pub fn model_keyframe_constraint_state(
     section: &[u8],
     start: usize,
@@ -89,13 +41,19 @@ pub fn model_keyframe_constraint_state(
 ) -> Result<bool, Refusal>
     ensures { said result ≡ model_keyframe_constraint_state edition1 include_index number entry section.now start }
 {
-    let (m, at) = keyframes::locate_model(section, start, include_index, number)?;
-    let (flag, _) = read_flag(section, at, include_index, m.front.counts, entry)?;
+    let (record, _) = keyframes::read_model_record(section, start, include_index, number)?;
+    let flags = Entries {
+        count: record.counts.constraints,
+        offset: record.bits.constraint_states_offset,
+        items: items::constraint_state_items(),
+    };
+    let at = lists::entry(section, &flags, entry)?;
+    let (flag, _) = numbers::read_bool(section, at)?;
     Ok(flag)
 }
 
 // Pair `entry` of model record `number`.
-#[tactic(auto, unfolding(layout::specs::Walk::entry_of))]
+#[tactic(auto, using(crate::proofs::ModelRecords::model_keyframe_outside_parent_is))]
 pub fn model_keyframe_outside_parent(
     section: &[u8],
     start: usize,
@@ -105,7 +63,13 @@ pub fn model_keyframe_outside_parent(
 ) -> Result<PmmDocumentOutsideParentIndexSummary, Refusal>
     ensures { said result ≡ model_keyframe_outside_parent edition1 include_index number entry section.now start }
 {
-    let (m, at) = keyframes::locate_model(section, start, include_index, number)?;
-    let (bits, _) = read_pair(section, at, include_index, m.front.counts, entry)?;
-    Ok(PmmDocumentOutsideParentIndexSummary::from(bits))
+    let (record, _) = keyframes::read_model_record(section, start, include_index, number)?;
+    let pairs = Entries {
+        count: record.counts.parents,
+        offset: record.bits.outside_parent_indices_offset,
+        items: items::pair_items(),
+    };
+    let at = lists::entry(section, &pairs, entry)?;
+    let (pair, _) = groups::read_u32s_le(section, at)?;
+    Ok(PmmDocumentOutsideParentIndexSummary::from(pair))
 }

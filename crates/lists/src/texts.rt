@@ -66,6 +66,6 @@ pub fn text_part(section: &[u8], start: usize, text: Text) -> &[u8]
 {
     match text_span(section, start, text) {
         Ok(text) => parts::part(section, text.offset, text.length),
-        Err(_) => &section[..0],
+        Err(_) => &[],
     }
 }

@@ -70,3 +70,5 @@ module _ {B : Type 0} {kind : Kind} {r : Records B} where
             followed = rw (add-one, p.followed, links);
             are = is ∙ track-marked kind r e.indexed track e.is-track marks p.are;
           }
+
+pub ruleset links_left = (ending, few-links)

@@ -12,6 +12,7 @@ use Rattle.clip.specs.Chain.{chain}
 use Rattle.clip.specs.Build.{chain_of, reached, both_links_zero, disconnected, links_followed, loose}
 use Rattle.clip.proofs.Counting.{number-le}
 use Rattle.clip.proofs.Reached.{all-counted}
+use Rattle.marks.proofs.Each.{length-each}
 
 number_more : (n : ℕ) (f : ℕ → Bool) (b : Bool) → f n ≡ b → number (n + 1) f ≡ number n f + cond b 1 0
 unfolding number
@@ -68,3 +69,5 @@ pub all-reached : {B : Type 0} (kind : Kind) (r : Records B) → Indexed r → (
 all-reached kind r x ended all =
     let parts = all-counted kind r x ended in
     (omega (arith, parts, all), omega (arith, parts, all))
+
+pub ruleset counting = (all-reached, below, done, length-each)

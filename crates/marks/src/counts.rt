@@ -25,7 +25,9 @@ fn unlinked(records: &Records, p: usize) -> bool
     (previous == 0) & (next == 0)
 }
 
-// The counts, where every chain ends and so many links were followed. If these are as many as the records, no record is left.
+// The counts, where every chain ends and so many links were followed. If these are as many as the records, no record is left. What is known
+// of the chains is said in clauses: one of the two passes that ask has no `Chains`.
+#[tactic(auto, using(crate::proofs::Unreached::counting))]
 pub fn count(records: &Records, marks: &[u16], reached: usize) -> Counts
     requires indexed { Indexed (links records.now.section.now records.now.block) }
     requires all_end { AllEnd records.now.section.now records.now.block }
@@ -40,6 +42,7 @@ pub fn count(records: &Records, marks: &[u16], reached: usize) -> Counts
             loose: 0,
         };
     }
+    // Two counts in one pass: two chains of `filter` would look at each record twice.
     let mut disconnected = 0;
     let mut loose = 0;
     for (p, mark) in marks.iter().enumerate() {

@@ -3,13 +3,12 @@ ghost use Rattle.std.specs.Prelude.{◌≡◌, ◌+◌, length, replicate};
 ghost use Rattle.strip.specs.Work.{each, track_mark};
 ghost use Rattle.clip.specs.Build.{links_followed};
 ghost use Rattle.chains.specs.Block.{kind_of, links};
-ghost use Rattle.chains.specs.Chain.{chain_at};
+ghost use Rattle.chains.specs.Positions.{records_of};
 ghost use Rattle.marks.specs.Marks.{marked, counts_of};
 
 use crate::counts;
 use crate::counts::Counts;
 use chains::chain::{Chain, Chains};
-use flags::bits;
 
 // The slice's length is a clause here and below, since these functions write it.
 
@@ -17,8 +16,8 @@ use flags::bits;
 // would follow the links once more.
 fn mark_chain(chain: &Chain, marks: &mut [u16]) -> usize
     requires { length marks.old ≡ chain.now.indexed.records.block.records.count }
-    ensures marks_after { marks.new ≡ marked (chain.now.track + 1) (chain_at chain.now.indexed.records.section.now chain.now.indexed.records.block chain.now.track) marks.old }
-    ensures value { result ≡ length (chain_at chain.now.indexed.records.section.now chain.now.indexed.records.block chain.now.track) }
+    ensures marks_after { marks.new ≡ marked (chain.now.track + 1) (records_of chain.now) marks.old }
+    ensures value { result ≡ length (records_of chain.now) }
 {
     let mark = (chain.track + 1) as u16;
     let mut n = 0;
@@ -29,6 +28,7 @@ fn mark_chain(chain: &Chain, marks: &mut [u16]) -> usize
     n
 }
 
+#[tactic(auto, using(crate::proofs::Passing::links_left))]
 fn mark_tracks(chains: &Chains, marks: &mut [u16]) -> usize
     requires { marks.old ≡ replicate chains.now.indexed.records.block.records.count 0 }
     ensures marks_after { marks.new ≡ each chains.now.indexed.records.block.records.count (track_mark (kind_of chains.now.indexed.records.block.kind) (links chains.now.indexed.records.section.now chains.now.indexed.records.block)) }
@@ -49,7 +49,7 @@ pub fn mark(chains: &Chains, marks: &mut [u16]) -> Counts
     ensures marks_after { marks.new ≡ each chains.now.indexed.records.block.records.count (track_mark (kind_of chains.now.indexed.records.block.kind) (links chains.now.indexed.records.section.now chains.now.indexed.records.block)) }
     ensures value { result ≡ counts_of chains.now.indexed.records.section.now chains.now.indexed.records.block }
 {
-    bits::clear(marks);
+    marks.fill(0);
     let reached = mark_tracks(chains, marks);
     counts::count(&chains.indexed.records, marks, reached)
 }

@@ -6,7 +6,6 @@ ghost use Rattle.marks.specs.Rising.{Behind, ChainMarked, TracksMarked};
 use chains::block::Records;
 use chains::lookup::Indexed;
 use chains::near::Near;
-use flags::bits;
 use track_keys::{key, ready};
 
 // Whether a record stands rightly behind a key: its previous link, a later frame, and a key that meets nothing.
@@ -24,7 +23,8 @@ fn behind(records: &Records, p: usize, expected: u32, frame: u32) -> bool
     key::fine(&here)
 }
 
-// How many links were followed, if nothing else was found. The chain may not end, so its links are looked up and tested one by one.
+// How many links were followed, if nothing else was found. The chain may not end, so its links are looked up and tested one by one. The
+// slice's length is a clause here and below, since these functions write it.
 fn mark_chain(indexed: &Indexed, track: usize, marks: &mut [u16]) -> Option<usize>
     requires track_lt_count { track < indexed.now.records.block.initials.count }
     requires marks_len { length marks.old ≡ indexed.now.records.block.records.count }
@@ -32,7 +32,7 @@ fn mark_chain(indexed: &Indexed, track: usize, marks: &mut [u16]) -> Option<usiz
     ensures marks_len_unchanged { length marks.new ≡ length marks.old }
 {
     let records = &indexed.records;
-    if let Err(_) = ready::initial_key(records, track) {
+    if ready::initial_key(records, track).is_err() {
         return None;
     }
     let mark = (track + 1) as u16;
@@ -57,6 +57,7 @@ fn mark_chain(indexed: &Indexed, track: usize, marks: &mut [u16]) -> Option<usiz
     Some(n)
 }
 
+#[tactic(auto, using(crate::proofs::Passing::links_left))]
 fn mark_tracks(indexed: &Indexed, marks: &mut [u16]) -> Option<usize>
     requires { marks.old ≡ replicate indexed.now.records.block.records.count 0 }
     ensures tracks_marked { TracksMarked indexed.now.records.section.now indexed.now.records.block marks.new result }
@@ -77,6 +78,6 @@ pub fn mark_rising(indexed: &Indexed, marks: &mut [u16]) -> Option<usize>
     ensures tracks_marked { TracksMarked indexed.now.records.section.now indexed.now.records.block marks.new result }
     ensures marks_len_unchanged { length marks.new ≡ length marks.old }
 {
-    bits::clear(marks);
+    marks.fill(0);
     mark_tracks(indexed, marks)
 }

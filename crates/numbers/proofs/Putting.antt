@@ -7,11 +7,6 @@ use native.Mathlib.Omega.{arith}
 use native.Mathlib.Decide.{dec_lt, dec_le}
 use lib.ListN.{length, take, drop, set, length-set, length-drop, drop_of_length-le, take-append-drop}
 use Rattle.std.proofs.Common.{drop-drop}
-use lib.IntN.{ℤ}
-use lib.Signed.{mag}
-use mir.Syntax.{w32}
-use mir.Val.{of_z, to_z}
-use mir.ValLaws.{to_z-of_z}
 use lib.Seq.{set_out, take_all, take-nil, take-suc-set, drop-set-lt}
 use Rattle.numbers.specs.Put.{put}
 
@@ -49,10 +44,6 @@ same at xs ys before now wrote is = wrote ∙ ap (λ (zs : List ℕ). put at zs 
 
 pub also : (x y : ℕ) (xs ys : List ℕ) → x ≡ y → xs ≡ ys → x ∷ xs ≡ y ∷ ys
 also x y xs ys here there = ap (λ (z : ℕ). z ∷ xs) here ∙ ap (λ (zs : List ℕ). y ∷ zs) there
-
--- A signed field that is handed to `signed`.
-pub signed_is : (r : ℕ) (z : ℤ) → mag z < 2147483648 → r ≡ of_z w32 (to_z w32 (of_z w32 z)) → r ≡ of_z w32 z
-signed_is r z fits e = e ∙ ap (of_z w32) (to_z-of_z w32 z (record { sfits = fits }))
 
 -- One number more, where the slice reaches its place and where it does not.
 within-room : {A : Type 0} (at : ℕ) (x : A) (xs slice : List A) → at < length slice → take (suc at) (set slice at x) ++ take (length (set slice at x) - suc at) xs ++ drop (suc at + length xs) (set slice at x) ≡ take at slice ++ take (length slice - at) (x ∷ xs) ++ drop (at + suc (length xs)) slice
@@ -116,3 +107,5 @@ put-within at first xs slice now e wrote =
     let fits : length (drop first slice) ≤ length slice - first = omega (arith, length-drop first slice) in
     rw (wrote, take_all (length slice - first) (drop first slice) fits, drop_of_length-le (drop first slice) {i = length slice - first} fits, append-nil (put 0 xs (drop first slice)))
     (put-first first xs slice ∙ put-end at first xs slice e)
+
+pub ruleset puts = (put-none, put-past, put-copied, put-within)

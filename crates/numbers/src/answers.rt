@@ -15,6 +15,7 @@ pub trait Numbers: Sized {
         ensures { values.new ≡ put 0 (numbers self) values.old };
 
     // From any place on, as far as it reaches.
+    #[tactic(auto, using(crate::proofs::Putting::puts))]
     fn put_at(self, values: &mut [u64], at: usize)
         ensures { values.new ≡ put at (numbers self) values.old }
     {

@@ -4,16 +4,16 @@ ghost use Rattle.numbers.specs.Put.{put};
 ghost use Rattle.numbers.specs.Tracks.{camera_view, camera_fields, camera_offsets, camera_rest, camera};
 
 use crate::answers::Numbers;
-use crate::{groups, put, scalars};
+use crate::{put, scalars};
 use tracks::camera::{CameraKeyframeSummary, CameraOffsets};
 
 fn put_view(values: &mut [u64], c: CameraKeyframeSummary)
     ensures { values.new ≡ put 0 (camera_view c) values.old }
 {
-    groups::put_base(values, 0, c.base);
+    c.base.put_at(values, 0);
     put::put(values, 4, &[scalars::float(c.distance)]);
-    groups::put_vector(values, 5, c.look_at);
-    groups::put_vector(values, 8, c.angle);
+    c.look_at.put_at(values, 5);
+    c.angle.put_at(values, 8);
 }
 
 #[tactic(auto, unfolding(crate::specs::Tracks::camera_fields))]
@@ -56,7 +56,7 @@ fn put_rest(values: &mut [u64], c: CameraKeyframeSummary)
 {
     put_fields(values, 11, c);
     put_offsets(values, 16, c.offsets);
-    groups::put_span(values, 28, c.span);
+    c.span.put_at(values, 28);
 }
 
 impl Numbers for CameraKeyframeSummary {

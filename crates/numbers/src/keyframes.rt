@@ -4,7 +4,7 @@ ghost use Rattle.numbers.specs.Put.{put};
 ghost use Rattle.numbers.specs.Keyframes.{bone_flags, bone, morph_fields, morph, model_fields, model};
 
 use crate::answers::Numbers;
-use crate::{groups, put, scalars};
+use crate::{put, scalars};
 use records::bone::PmmDocumentBoneKeyframeSummary;
 use records::model::PmmDocumentModelKeyframeSummary;
 use records::morph::PmmDocumentMorphKeyframeSummary;
@@ -21,10 +21,10 @@ impl Numbers for PmmDocumentBoneKeyframeSummary {
     ghost numbers = { bone };
 
     fn put(self, values: &mut [u64]) {
-        groups::put_base(values, 0, self.base);
-        groups::put_pose(values, 4, self.pose);
+        self.base.put_at(values, 0);
+        self.pose.put_at(values, 4);
         put_bone_flags(values, 11, self);
-        groups::put_span(values, 13, self.span);
+        self.span.put_at(values, 13);
     }
 }
 
@@ -40,9 +40,9 @@ impl Numbers for PmmDocumentMorphKeyframeSummary {
     ghost numbers = { morph };
 
     fn put(self, values: &mut [u64]) {
-        groups::put_base(values, 0, self.base);
+        self.base.put_at(values, 0);
         put_morph_fields(values, 4, self);
-        groups::put_span(values, 6, self.span);
+        self.span.put_at(values, 6);
     }
 }
 
@@ -69,8 +69,8 @@ impl Numbers for PmmDocumentModelKeyframeSummary {
     ghost numbers = { model };
 
     fn put(self, values: &mut [u64]) {
-        groups::put_base(values, 0, self.base);
+        self.base.put_at(values, 0);
         put_model_fields(values, 4, self);
-        groups::put_span(values, 14, self.span);
+        self.span.put_at(values, 14);
     }
 }

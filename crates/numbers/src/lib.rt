@@ -1,4 +1,6 @@
-// What the calls for C answer, as numbers in a slice of u64: document 01's answers field by field, in a fixed order.
+// What the calls for C answer, as numbers in a slice of u64: document 01's answers field by field, in a fixed order. The writers are alike
+// in shape alone: each names the fields of its own struct. An offset or a count is cast where it is named: no u64 is made `From` a usize, and
+// of `map` over an array of twelve the check finds no answer, of `map` over one of any length none without a bound on it.
 #![tactic(auto)]
 
 pub mod answers;

@@ -4,7 +4,7 @@ ghost use Rattle.numbers.specs.Put.{put};
 ghost use Rattle.numbers.specs.Tracks.{light_fields, light};
 
 use crate::answers::Numbers;
-use crate::{groups, put, scalars};
+use crate::{put, scalars};
 use tracks::light::LightKeyframeSummary;
 
 #[tactic(auto, unfolding(crate::specs::Tracks::light_fields))]
@@ -26,10 +26,10 @@ impl Numbers for LightKeyframeSummary {
     ghost numbers = { light };
 
     fn put(self, values: &mut [u64]) {
-        groups::put_base(values, 0, self.base);
-        groups::put_vector(values, 4, self.color);
-        groups::put_vector(values, 7, self.direction);
+        self.base.put_at(values, 0);
+        self.color.put_at(values, 4);
+        self.direction.put_at(values, 7);
         put_fields(values, 10, self);
-        groups::put_span(values, 16, self.span);
+        self.span.put_at(values, 16);
     }
 }

@@ -3,6 +3,7 @@ ghost use Rattle.std.specs.Prelude.{◌≡◌};
 ghost use Rattle.numbers.specs.Put.{put};
 ghost use Rattle.numbers.specs.Answers.{Hands};
 
+#[tactic(auto, using(crate::proofs::Putting::puts))]
 pub fn put<T: Copy>(slice: &mut [T], at: usize, items: &[T])
     ensures { slice.new ≡ put at items.now slice.old }
 {

@@ -7,6 +7,7 @@ ghost use Rattle.numbers.specs.Answers.{values, Refuses};
 use crate::put;
 use binary::refusal::Refusal;
 
+#[tactic(auto, using(crate::proofs::Putting::puts))]
 fn put_values(slice: &mut [u64], why: Refusal)
     ensures { slice.new ≡ put 0 (values (because why)) slice.old }
 {

@@ -4,7 +4,7 @@ ghost use Rattle.numbers.specs.Put.{put};
 ghost use Rattle.numbers.specs.States.{float, flag, pair, outside_parent, bone_state_flags, bone_state};
 
 use crate::answers::Numbers;
-use crate::{groups, put, scalars};
+use crate::{put, scalars};
 use lists::model_lists::PmmDocumentOutsideParentIndexSummary;
 use records::states::{PmmDocumentBoneStateSummary, PmmDocumentOutsideParentStateSummary};
 
@@ -72,7 +72,7 @@ impl Numbers for PmmDocumentBoneStateSummary {
     ghost numbers = { bone_state };
 
     fn put(self, values: &mut [u64]) {
-        groups::put_pose(values, 0, self.pose);
+        self.pose.put_at(values, 0);
         put_bone_state_flags(values, 7, self);
     }
 }

@@ -75,3 +75,5 @@ module _ (s : List ℕ) (f : Field) (within : Within s f) (before after : List �
     pub repeats-absent : (r : Option ℕ) → Finds s f after number r → is_some r ≡ false → Repeats (with_first number s f before) (length before + 1) (ltb m f.count)
     repeats-absent None finds is = repeats-told None finds refl
     repeats-absent (Some i) finds is = absurd (let no : true ≡ false = is in cc)
+
+pub ruleset repeats = (repeats-found, repeats-absent)

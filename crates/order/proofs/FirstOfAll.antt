@@ -22,9 +22,6 @@ module _ (s : List ℕ) (f : Field) (within : Within s f) (n : ℕ) (few : n ≤
   filled-has = rw is (up_to-has n)
 
   module _ (after : List ℕ) (sorted : Sorted s f filled after) where
-    pub filled-sorted : Sorted s f (up_to n) after
-    filled-sorted = rw is at sorted
-
     -- The pass was given the slots' length.
     pub first-repeat : (m : ℕ) → LeastBehind s f after (length after) m → FirstRepeat (number_of s f) n m
     first-repeat m pass =

@@ -1,32 +1,38 @@
 -- The search for the first place of a number. Assumes nothing.
-use Prim.Native.Nat.{ℕ, ◌+◌, ◌≤◌, ◌<◌}
+use Prim.Native.Nat.{ℕ, ◌≤◌, ◌<◌}
 use native.Mathlib.Omega.{arith}
-use mathlib.Core.Path.{◌≡◌, sym, subst}
+use mathlib.Core.Path.{◌≡◌, sym, subst, ap, ◌∙◌}
+use mathlib.Core.Bool.{Bool, true, false, ◌&&◌}
+use lib.ListN.{length, get_or}
+use mathlib.Core.List.{List}
+use Rattle.std.proofs.Common.{ltb, ltb-true, lt-ltb, ltb-false}
+use Rattle.std.proofs.lemmas.Grind.{get_or_default_zero}
+use Rattle.std.specs.List.Sorted.{IsPartitionedBy, IsPartitionPoint}
+use Rattle.order.specs.Field.{AllBelow}
 use Rattle.order.specs.Met.{Bounds}
 use Rattle.order.proofs.Times.{equal_or_not}
 
-module _ (v : ℕ → ℕ) (n number : ℕ) where
-  module _ (low high : ℕ) (b : Bounds v n number low high) where
-    -- The number at m, here, was compared.
-    module _ (rise : (i j : ℕ) → i < j → j < n → v i ≤ v j) (m here : ℕ) (from : low ≤ m) (to : m < high) (is : here ≡ v m) where
-      pub bounds-up : here < number → Bounds v n number (m + 1) high
-      bounds-up less = record {
-        ordered = omega arith;
-        within = b.within;
-        under = λ i lt.
-            equal_or_not i m
-            (λ same. subst (λ k. v k < number) (sym same) (omega arith))
-            (λ other. let below = rise i m (omega (arith, other)) (omega arith) in omega (arith, below));
-        rest = b.rest;
-      }
+module _ (v : ℕ → ℕ) (n number : ℕ) (xs : List ℕ) (below : AllBelow n xs) where
+  abbrev pub under : ℕ → Bool
+  under y = ltb y n && ltb (v y) number
 
-      pub bounds-down : number ≤ here → Bounds v n number low m
-      bounds-down least = record {
-        ordered = from;
-        within = omega arith;
-        under = b.under;
-        rest = λ i past lt.
-            equal_or_not i m
-            (λ same. subst (λ k. number ≤ v k) (sym same) (omega arith))
-            (λ behind. let above = rise m i (omega (arith, behind)) lt in omega (arith, above));
-      }
+  is : (i d : ℕ) → i < length xs → under (get_or xs i d) ≡ ltb (v (get_or xs i 0)) number
+  is i d lt = ap under (get_or_default_zero xs i d lt) ∙ ap (λ (t : Bool). t && ltb (v (get_or xs i 0)) number) (lt-ltb _ _ (below i lt))
+
+  module _ (rise : (i j : ℕ) → i < j → j < length xs → v (get_or xs i 0) ≤ v (get_or xs j 0)) where
+    pub parted : IsPartitionedBy under xs
+    parted i j d le lt e =
+        equal_or_not i j
+        (λ same. subst (λ k. under (get_or xs k d) ≡ true) (sym same) e)
+        (λ other.
+        let up = rise i j (omega (arith, other)) lt in
+        let less = ltb-true _ _ (sym (is j d lt) ∙ e) in
+        is i d (omega arith) ∙ lt-ltb _ _ (omega (arith, up, less)))
+
+    pub bounds : (k : ℕ) → k ≤ length xs → IsPartitionPoint (λ y. under y ≡ true) (λ y. under y ≡ false) xs k → Bounds (λ i. v (get_or xs i 0)) (length xs) number k k
+    bounds k most point = record {
+      ordered = omega arith;
+      within = most;
+      under = λ i lt. ltb-true _ _ (sym (is i 0 (omega arith)) ∙ point.0 i 0 (omega arith) lt);
+      rest = λ i past lt. ltb-false _ _ (sym (is i 0 lt) ∙ point.1 i 0 past lt);
+    }

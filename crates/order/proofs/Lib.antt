@@ -11,7 +11,6 @@ pub mod InOrder
 pub mod Laws
 pub mod Meeting
 pub mod Neighbours
-pub mod Risen
 pub mod Tally
 pub mod Times
 pub mod Unique

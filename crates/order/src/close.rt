@@ -14,7 +14,7 @@ pub(crate) fn first_met(numbers: &Numbers, least: u32, slots: &mut [u16]) -> Opt
     ensures slots_len_unchanged { length slots.new ≡ length slots.old }
 {
     let n = slots.len();
-    bits::clear(slots);
+    slots.fill(0);
     for p in 0..n {
         let x = consecutive::place(numbers, p, least, 16 * n)?;
         if bits::raise(slots, x) {

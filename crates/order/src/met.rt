@@ -16,12 +16,11 @@ impl Rising<'_, '_> {
         ensures { FirstTwo (number_at self.now.slots.numbers.section.now self.now.slots.numbers.field self.now.slots.positions.now) (length self.now.slots.positions.now) number result }
     {
         let first = self.first_place(number);
-        if 1 < self.slots.positions.len() - first {
-            if self.slots.number_at(first + 1) == number {
-                return Some(first);
-            }
+        if 1 < self.slots.positions.len() - first && self.slots.number_at(first + 1) == number {
+            Some(first)
+        } else {
+            None
         }
-        None
     }
 }
 

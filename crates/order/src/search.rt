@@ -11,18 +11,15 @@ impl Slots<'_, '_> {
     fn find_consecutive(&self, number: u32) -> Option<usize>
         ensures { Stands self.now.numbers.section.now self.now.numbers.field self.now.positions.now number result }
     {
-        if 0 < self.positions.len() {
-            let least = self.number_at(0);
-            if least <= number {
-                let i = (number - least) as usize;
-                if i < self.positions.len() {
-                    if self.number_at(i) == number {
-                        return Some(i);
-                    }
-                }
-            }
+        if self.positions.is_empty() {
+            return None;
         }
-        None
+        let i = number.checked_sub(self.number_at(0))? as usize;
+        if i < self.positions.len() && self.number_at(i) == number {
+            Some(i)
+        } else {
+            None
+        }
     }
 }
 
@@ -35,24 +32,17 @@ pub struct Rising<'s, 'p> {
 
 impl Rising<'_, '_> {
     // How many slots have a number below the given one, which is the first place of that number, if it is there.
-    // The slice's own searches need a closure that takes any u16, and here only positions of records have a number.
+    // The slice's search asks for an answer of any u16; the slots hold positions of records, so the first test is always met.
     pub(crate) fn first_place(&self, number: u32) -> usize
         ensures { Bounds (number_at self.now.slots.numbers.section.now self.now.slots.numbers.field self.now.slots.positions.now) (length self.now.slots.positions.now) number result result }
     {
-        let mut low = 0;
-        let mut high = self.slots.positions.len();
-        while low < high {
-            let middle = low + (high - low) / 2;
-            if self.slots.number_at(middle) < number {
-                low = middle + 1;
-            } else {
-                high = middle;
-            }
-        }
-        low
+        let numbers = self.slots.numbers;
+        self.slots.positions.partition_point(|p| {
+            (*p as usize) < numbers.field.count && numbers.at(*p as usize) < number
+        })
     }
 
-    // By halves too, and not by `first_place`: it ends where it meets the number, and was a seventh faster where most numbers stand.
+    // By halves of its own: tried by `first_place`, it took a seventh more time where most numbers stand, since this ends where it meets one.
     fn find_between(&self, number: u32) -> Option<usize>
         ensures { Finds self.now.slots.numbers.section.now self.now.slots.numbers.field self.now.slots.positions.now number result }
     {
@@ -76,7 +66,7 @@ impl Rising<'_, '_> {
     pub fn find(&self, number: u32) -> Option<usize>
         ensures { Finds self.now.slots.numbers.section.now self.now.slots.numbers.field self.now.slots.positions.now number result }
     {
-        // No `or_else`: the check finds both arms alone; of the closure's answer it would need a proof by hand.
+        // Tried by `or_else`: the check finds both arms alone; of the closure's answer it would need a proof by hand.
         match self.slots.find_consecutive(number) {
             Some(i) => Some(i),
             None => self.find_between(number),

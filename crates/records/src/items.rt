@@ -1,5 +1,5 @@
 // The items of each kind of record, after document 01's record table. `behind` is how many i32 stand behind a record's first
-// one and before its payload: 2 in an initial record, 3 in an additional one, whose first is its index.
+// one and before its payload: 2 in an initial record, 3 in an additional one, whose first is its index. It is how many, and no kind.
 ghost use Rattle.std.specs.Prelude.{◌≡◌, ◌∷◌, ◌++◌, replicate};
 ghost use Rattle.layout.specs.Records.{bone, morph, model, bone_state, morph_state, constraint_state, parent_state, pair};
 ghost use Rattle.binary.specs.Items.{widths};

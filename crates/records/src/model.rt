@@ -34,7 +34,8 @@ pub struct PmmDocumentModelKeyframeSummary {
     pub span: Span,
 }
 
-// Two numbers by name, as the table of records has them (layout, the model's C and P).
+// Two numbers by name, as the table of records has them (layout, the model's C and P): a struct of the two would be made anew where a
+// section's counts are at hand, to be taken apart here.
 #[tactic(auto, unfolding(crate::specs::Keyframes::model_bits))]
 pub fn read_model_record(
     s: &[u8],

@@ -1,13 +1,53 @@
 // The calls by the numbers that a file has for them, their places in oracle/calls/src/call.rs. Here alone a number becomes a call; an enum
-// between them would name each of the 31 twice more.
+// between them would name each of the 31 twice more. What the calls for C hand on is made here: an answer as numbers, or a part.
 use crate::check::Check;
-use exports::{
-    interpolation, keyframes, model_lists, payloads, spans, states, summary, texts, track,
-    track_keyframes,
-};
+use lists::keyframe::Keyframe;
+use lists::texts::Text;
+use lists::{interpolation, keyframe, model_lists, states, texts};
+use numbers::answers::Numbers;
+use records::bone::PmmDocumentBoneKeyframeSummary;
+use records::model::PmmDocumentModelKeyframeSummary;
+use records::morph::PmmDocumentMorphKeyframeSummary;
+use section::summary;
+use tracks::camera::CameraKeyframeSummary;
+use tracks::light::LightKeyframeSummary;
+use tracks::track::Kind;
+use tracks::{camera, track};
 use vectors::fields::Fields;
 use vectors::file::Section;
 use vectors::tally::Outcome;
+
+fn record<K: Keyframe + Numbers>(
+    section: Section<'_>,
+    check: Check,
+    checks: &mut Fields<'_>,
+) -> Outcome {
+    let answer = K::read(
+        section.bytes,
+        section.start,
+        check.include_index,
+        check.number,
+    );
+    check.numbers(checks, answer)
+}
+
+fn payload<K: Keyframe>(section: Section<'_>, check: Check, checks: &mut Fields<'_>) -> Outcome {
+    let part = keyframe::payload::<K>(
+        section.bytes,
+        section.start,
+        check.include_index,
+        check.number,
+    );
+    check.bytes(checks, part)
+}
+
+fn span(section: Section<'_>, check: Check, checks: &mut Fields<'_>, text: Text) -> Outcome {
+    check.numbers(checks, texts::text_span(section.bytes, section.start, text))
+}
+
+fn name(section: Section<'_>, check: Check, checks: &mut Fields<'_>, text: Text) -> Outcome {
+    check.bytes(checks, texts::text_part(section.bytes, section.start, text))
+}
 
 // Makes the check that comes next.
 pub fn make(section: Section<'_>, checks: &mut Fields<'_>) -> Outcome {
@@ -21,118 +61,60 @@ pub fn make(section: Section<'_>, checks: &mut Fields<'_>) -> Outcome {
         ..
     } = check;
     match call {
-        0 => check.numbers(checks, |values| {
-            summary::limdroven_model_summary(bytes, start, values)
-        }),
-        1 => check.numbers(checks, |values| {
-            keyframes::limdroven_bone_keyframe(bytes, start, include_index, number, values)
-        }),
-        2 => check.numbers(checks, |values| {
-            keyframes::limdroven_morph_keyframe(bytes, start, include_index, number, values)
-        }),
-        3 => check.numbers(checks, |values| {
-            keyframes::limdroven_model_keyframe(bytes, start, include_index, number, values)
-        }),
-        4 => check.numbers(checks, |values| {
-            model_lists::limdroven_model_keyframe_constraint_state(
+        0 => check.numbers(checks, summary::read_document_model_summary(bytes, start)),
+        1 => record::<PmmDocumentBoneKeyframeSummary>(section, check, checks),
+        2 => record::<PmmDocumentMorphKeyframeSummary>(section, check, checks),
+        3 => record::<PmmDocumentModelKeyframeSummary>(section, check, checks),
+        4 => check.numbers(
+            checks,
+            model_lists::model_keyframe_constraint_state(
                 bytes,
                 start,
                 include_index,
                 number,
                 entry,
-                values,
-            )
-        }),
-        5 => check.numbers(checks, |values| {
-            model_lists::limdroven_model_keyframe_outside_parent(
-                bytes,
-                start,
-                include_index,
-                number,
-                entry,
-                values,
-            )
-        }),
-        6 => check.numbers(checks, |values| {
-            states::limdroven_bone_state(bytes, start, number, values)
-        }),
-        7 => check.numbers(checks, |values| {
-            states::limdroven_morph_state(bytes, start, number, values)
-        }),
-        8 => check.numbers(checks, |values| {
-            states::limdroven_constraint_state(bytes, start, number, values)
-        }),
-        9 => check.numbers(checks, |values| {
-            states::limdroven_outside_parent_state(bytes, start, number, values)
-        }),
-        10 => check.numbers(checks, |values| {
-            spans::limdroven_name_span(bytes, start, values)
-        }),
-        11 => check.numbers(checks, |values| {
-            spans::limdroven_english_name_span(bytes, start, values)
-        }),
-        12 => check.numbers(checks, |values| {
-            spans::limdroven_path_span(bytes, start, values)
-        }),
-        13 => check.numbers(checks, |values| {
-            spans::limdroven_bone_name_span(bytes, start, number, values)
-        }),
-        14 => check.numbers(checks, |values| {
-            spans::limdroven_morph_name_span(bytes, start, number, values)
-        }),
-        15 => check.numbers(checks, |values| {
-            track::limdroven_camera_summary(bytes, start, values)
-        }),
-        16 => check.numbers(checks, |values| {
-            track::limdroven_light_summary(bytes, start, values)
-        }),
-        17 => check.numbers(checks, |values| {
-            track_keyframes::limdroven_camera_keyframe(bytes, start, include_index, number, values)
-        }),
-        18 => check.numbers(checks, |values| {
-            track_keyframes::limdroven_light_keyframe(bytes, start, include_index, number, values)
-        }),
-        19 => check.bytes(checks, |output| {
-            texts::limdroven_name(bytes, start, output)
-        }),
-        20 => check.bytes(checks, |output| {
-            texts::limdroven_english_name(bytes, start, output)
-        }),
-        21 => check.bytes(checks, |output| {
-            texts::limdroven_path(bytes, start, output)
-        }),
-        22 => check.bytes(checks, |output| {
-            texts::limdroven_bone_name(bytes, start, number, output)
-        }),
-        23 => check.bytes(checks, |output| {
-            texts::limdroven_morph_name(bytes, start, number, output)
-        }),
-        24 => check.bytes(checks, |output| {
-            payloads::limdroven_bone_payload(bytes, start, include_index, number, output)
-        }),
-        25 => check.bytes(checks, |output| {
-            payloads::limdroven_morph_payload(bytes, start, include_index, number, output)
-        }),
-        26 => check.bytes(checks, |output| {
-            payloads::limdroven_model_payload(bytes, start, include_index, number, output)
-        }),
-        27 => check.bytes(checks, |output| {
-            payloads::limdroven_camera_payload(bytes, start, include_index, number, output)
-        }),
-        28 => check.bytes(checks, |output| {
-            payloads::limdroven_light_payload(bytes, start, include_index, number, output)
-        }),
-        29 => check.bytes(checks, |output| {
-            interpolation::limdroven_camera_interpolation(
-                bytes,
-                start,
-                include_index,
-                number,
-                output,
-            )
-        }),
-        _ => check.bytes(checks, |output| {
-            interpolation::limdroven_bone_interpolation(bytes, start, include_index, number, output)
-        }),
+            ),
+        ),
+        5 => check.numbers(
+            checks,
+            model_lists::model_keyframe_outside_parent(bytes, start, include_index, number, entry),
+        ),
+        6 => check.numbers(checks, states::bone_state(bytes, start, number)),
+        7 => check.numbers(checks, states::morph_state(bytes, start, number)),
+        8 => check.numbers(checks, states::constraint_state(bytes, start, number)),
+        9 => check.numbers(checks, states::outside_parent_state(bytes, start, number)),
+        10 => span(section, check, checks, Text::Name),
+        11 => span(section, check, checks, Text::EnglishName),
+        12 => span(section, check, checks, Text::Path),
+        13 => span(section, check, checks, Text::Bone(number)),
+        14 => span(section, check, checks, Text::Morph(number)),
+        15 => check.numbers(
+            checks,
+            track::read_document_track_summary(bytes, start, Kind::Camera),
+        ),
+        16 => check.numbers(
+            checks,
+            track::read_document_track_summary(bytes, start, Kind::Light),
+        ),
+        17 => record::<CameraKeyframeSummary>(section, check, checks),
+        18 => record::<LightKeyframeSummary>(section, check, checks),
+        19 => name(section, check, checks, Text::Name),
+        20 => name(section, check, checks, Text::EnglishName),
+        21 => name(section, check, checks, Text::Path),
+        22 => name(section, check, checks, Text::Bone(number)),
+        23 => name(section, check, checks, Text::Morph(number)),
+        24 => payload::<PmmDocumentBoneKeyframeSummary>(section, check, checks),
+        25 => payload::<PmmDocumentMorphKeyframeSummary>(section, check, checks),
+        26 => payload::<PmmDocumentModelKeyframeSummary>(section, check, checks),
+        27 => payload::<CameraKeyframeSummary>(section, check, checks),
+        28 => payload::<LightKeyframeSummary>(section, check, checks),
+        29 => check.bytes(
+            checks,
+            camera::camera_interpolation(bytes, start, include_index, number),
+        ),
+        _ => check.bytes(
+            checks,
+            interpolation::bone_curves(bytes, start, include_index, number),
+        ),
     }
 }

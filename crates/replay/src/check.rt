@@ -1,4 +1,7 @@
 // One check: what a call is lent, and what it must answer. oracle/README.md has the format.
+use binary::refusal::Refusal;
+use numbers::answers::Numbers;
+use numbers::{answers, put};
 use vectors::fields::Fields;
 use vectors::lent::{Lent, Place, Size};
 use vectors::tally::{Outcome, Row};
@@ -29,28 +32,28 @@ impl Check {
         }
     }
 
-    // Of a call that answers numbers.
-    pub fn numbers<F: FnOnce(&mut [u64]) -> u32>(self, checks: &mut Fields<'_>, call: F) -> Outcome
-        requires { F.IsAlwaysCallable call }
-    {
+    // Of an answer that is told in numbers.
+    pub fn numbers<T: Numbers + Drop>(
+        self,
+        checks: &mut Fields<'_>,
+        answer: Result<T, Refusal>,
+    ) -> Outcome {
         let lent = Lent::read::<u64>(self.lent, checks);
         Outcome {
             row: Row::Returned(self.returned),
             right: lent.right(&mut [u64::BEFORE; 64], |values| {
-                call(values) as usize == self.returned
+                answers::say(answer, values) as usize == self.returned
             }),
         }
     }
 
-    // Of a call that answers bytes.
-    pub fn bytes<F: FnOnce(&mut [u8]) -> usize>(self, checks: &mut Fields<'_>, call: F) -> Outcome
-        requires { F.IsAlwaysCallable call }
-    {
+    // Of an answer that is a part of the section.
+    pub fn bytes(self, checks: &mut Fields<'_>, part: &[u8]) -> Outcome {
         let lent = Lent::read::<u8>(self.lent, checks);
         Outcome {
             row: Row::Bytes,
             right: lent.right(&mut [u8::BEFORE; 4096], |output| {
-                call(output) == self.returned
+                put::put_part(output, part) == self.returned
             }),
         }
     }

@@ -4,7 +4,7 @@ use Prim.Native.Nat.{ℕ, ◌<◌}
 use mathlib.Core.Bool.{true, false}
 use mathlib.Core.List.{List as ListOf}
 use mathlib.Core.Path.{◌≡◌, refl, sym, ap, subst}
-use Rattle.layout.specs.Walk.{fine, Reader, answered}
+use Rattle.layout.specs.Walk.{fine, Reader, answered, bytes_at}
 use Rattle.records.specs.Base.{base_of, span_of}
 use Rattle.records.specs.Keyframes.{bone_of, morph_of}
 use Rattle.records.specs.declared.base.BaseBits.{BaseBits}
@@ -21,7 +21,7 @@ use Rattle.lists.specs.Keyframes.{bone_keyframe, morph_keyframe}
 use Rattle.lists.specs.declared.lists.List.{List}
 use Rattle.clip.specs.Fields.{Initial, Additional, BoneBody, signed}
 use Rattle.clip.specs.Keys.{posed, float_at}
-use Rattle.clip.specs.Section.{bytes_at, records_at, bones, morphs}
+use Rattle.clip.specs.Section.{records_at, bones, morphs}
 use Rattle.clip.proofs.Facts.{Blocks, blocks}
 use Rattle.keys.proofs.AsShown.{AdditionalShown, InitialShown, bone-shown, initial-bone-shown, morph-shown, initial-morph-shown, curves-shown, initial-curves-shown}
 use Rattle.shown.proofs.Entries.{ReadAt, place_of, read_at, found-there}

@@ -8,13 +8,14 @@ use mathlib.Core.Path.{◌≡◌, refl}
 use borrow.Author.Tests.{leb-false}
 use lib.IntN.{pos}
 use lib.ListN.{length-map}
+use Rattle.layout.specs.Walk.{bytes_at}
 use Rattle.section.specs.Limits.{Limits}
 use Rattle.section.specs.declared.model.Model.{Model}
 use Rattle.clip.specs.First.{given, ◌or◌, member}
 use Rattle.clip.specs.Fields.{Records, Kind, bone, morph, refusal_of, signed, negative}
 use Rattle.clip.specs.Keys.{Key, key_test, body_refusal, pose_asked, posed, weight_asked, float_at}
 use Rattle.clip.specs.Build.{initial_key, record_key, chain_of, keys}
-use Rattle.clip.specs.Section.{bytes_at, bone_body, morph_body, initial_at, additional_at, records_at, bones, morphs}
+use Rattle.clip.specs.Section.{bone_body, morph_body, initial_at, additional_at, records_at, bones, morphs}
 use Rattle.clip.proofs.First.{or-none, given-none}
 use Rattle.clip.proofs.Sound.{KeysPass, keys_of, Sound, chain-of}
 use Rattle.clip.proofs.Reached.{chain_length}

@@ -82,3 +82,5 @@ module _ (s : List ℕ) (b : Block) (counts : Counts) (is : counts ≡ counts_of
       go : (some : Bool) → ltb 0 counts.disconnected ≡ some → Builds s b slots marks (cond some (Err (Fault.Disconnected counts.disconnected)) (Ok (record { reached = counts.reached; loose = counts.loose })))
       go true e = counted-left (ltb-true 0 counts.disconnected e)
       go false e = counted slots marks ordered marked (ltb-false 0 counts.disconnected e)
+
+pub ruleset kinds = (scan-meets, all_end, tracks-meet, reports)

@@ -39,14 +39,6 @@ module _ {s : List ℕ} {m : Model} (w : WasRead s m) {bb mb : Block} (eb : bb �
   unfolding bones morphs records_at bone_block morph_block
   counted = rw (eb, em)
 
-  pub few : bb.records.count + mb.records.count ≤ 131068
-  unfolding bone_block morph_block
-  few =
-      let b = blocks edition1 s w.start m w.end w.reads in
-      let n1 : bb.records.count ≤ 65534 = rw eb b.bones.within in
-      let n2 : mb.records.count ≤ 65534 = rw em b.morphs.within in
-      omega (arith, n1, n2)
-
   pub bones-within : Fits s bb
   bones-within = let b = blocks edition1 s w.start m w.end w.reads in rw eb (bones-stand s m b)
 
@@ -100,9 +92,8 @@ module _ (s : List ℕ) (start : ℕ) (first second output : List ℕ) where
       record { answers = rw walk; leaves_first = rw walk; leaves_second = rw walk; leaves_output = rw walk }
 
   module _ (m : Model) (end : ℕ) (read : fine m end ≡ model_section edition1 s start) where
-    pub was_read : WasRead s m
-    was_read = record { start = start; end = end; reads = sym read }
-
     pub read-says : (r : Result Told StripRefusal) (first' second' output' : List ℕ) → Says (slices_tested first second output count_width s m ((bones s m).additional + (morphs s m).additional)) r first' second' output' → Says (strip_call edition1 count_width s start first second output) r first' second' output'
     unfolding strip_call
     read-says r first' second' output' says = rw (← read) says
+
+pub ruleset refusals = (not-read, first_short, second_short)

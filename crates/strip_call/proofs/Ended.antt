@@ -2,8 +2,8 @@
 use Prim.Native.Nat.{ℕ, ◌+◌, ◌≤◌}
 use native.Mathlib.Omega.{arith}
 use mathlib.Core.List.{List, ◌++◌}
-use mathlib.Core.Option.{none, some}
-use mathlib.Core.Path.{◌≡◌, refl, sym, ap, ◌∙◌}
+use mathlib.Core.Option.{none}
+use mathlib.Core.Path.{◌≡◌, sym, ap, ◌∙◌}
 use borrow.Author.Tests.{le-ltb}
 use lib.ListN.{length, take, drop, take-append-drop}
 use lib.Seq.{take-add, length-take-le}
@@ -14,11 +14,10 @@ use Rattle.strip.specs.Call.{Built, over}
 use Rattle.chains.specs.declared.block.Block.{Block}
 use Rattle.chains.specs.declared.block.Records.{Records}
 use Rattle.strip_call.specs.Parts.{part, Outside}
-use Rattle.strip_call.specs.Answers.{refusal_read, Says}
+use Rattle.strip_call.specs.Answers.{Says}
 use Rattle.std.specs.Prelude.{Result, Ok}
-use Rattle.clip.specs.First.{◌or◌}
-use Rattle.strip_call.specs.Building.{kind_meets, ClipPassed, ClipBuilds}
-use Rattle.strip_call.specs.Outcomes.{outcome_of, parts_of, BuildRefused, Strippable}
+use Rattle.strip_call.specs.Building.{ClipPassed, ClipBuilds}
+use Rattle.strip_call.specs.Outcomes.{outcome_of, parts_of, Strippable}
 use Rattle.strip_call.specs.Bytes.{strip_bytes}
 use Rattle.strip_call.specs.declared.answer.Counted.{Counted}
 use Rattle.strip_call.specs.declared.answer.StripRefusal.{StripRefusal}
@@ -49,9 +48,6 @@ ran b strippable outside_first outside_second builds =
     record { strippable = strippable; outside_first = outside_first; outside_second = outside_second; builds = builds }
 
 module _ (s : List ℕ) (bones morphs : Block) {first second first₁ second₁ : List ℕ} (o₁ : Outside 0 (bones.records.count + morphs.records.count) first first₁) (o₂ : Outside 0 (bones.records.count + morphs.records.count) second second₁) where
-  pub build-refused : {why : StripRefusal} (output : List ℕ) → (kind_meets s bones or kind_meets s morphs) ≡ some (refusal_read why) → BuildRefused (outcome_of first second output (bones.records.count + morphs.records.count) (parts_of s bones morphs)) why (bones.records.count + morphs.records.count) first second output first₁ second₁ output
-  build-refused output met = record { zeroes = rw met; outside_first = o₁; outside_second = o₂; leaves_output = refl }
-
   module _ {reached left : ℕ} (passed : ClipPassed s bones morphs first₁ second₁ reached left) where
     met-none : (parts_of s bones morphs).met ≡ none
     met-none = rw (passed.of_bones.meets, passed.of_morphs.meets)

@@ -7,6 +7,7 @@ use borrow.Rule.Slice.PartMut.{mid_of, post_of, put_mid, same_len_mid, mid_len, 
 use lib.ListN.{length, take, drop}
 use lib.Seq.{length-take-le, take_at, drop_at, drop-drop}
 use Rattle.strip_call.specs.Parts.{part, Outside}
+use Rattle.strip_call.proofs.Clipped.{front-passed}
 
 module _ (from n : ℕ) (xs ys : List ℕ) (room : from + n ≤ length xs) (full : length ys ≡ n) where
   pub part-put : part from n (put_mid from (from + n - from) xs ys) ≡ ys
@@ -52,3 +53,5 @@ pub put-back : (from n : ℕ) (xs ys : List ℕ) → from + n ≤ length xs → 
 put-back from n xs ys room same =
     let full : length ys ≡ n = same ∙ part-full from n xs room in
     record { holds = part-put from n xs ys room full; outside = outside-put from n xs ys room full }
+
+pub ruleset clip_parts = (outside-first, outside-both, front-passed)

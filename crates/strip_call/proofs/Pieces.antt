@@ -64,3 +64,5 @@ module _ (s : List ℕ) (bones morphs : Block) where
 
 pub wrote-length : {bytes old new : List ℕ} {end : ℕ} → Room 0 bytes old → Wrote 0 bytes old end new → length new ≡ length old
 wrote-length {bytes} {old} room w = ap length w.leaves ∙ length-placed 0 bytes old room
+
+pub ruleset pieces = (measured, second_fits, bones-fit, morphs-fit)

@@ -4,5 +4,6 @@ pub mod Answers
 pub mod Building
 pub mod Bytes
 pub mod Clip
+pub mod Need
 pub mod Outcomes
 pub mod Demand3

@@ -17,8 +17,10 @@ use Rattle.strip_call.specs.Answers.{refusal_read, Says}
 use Rattle.strip_call.specs.Building.{kind_meets}
 use Rattle.strip_call.specs.Parts.{Outside}
 use Rattle.strip_call.specs.Bytes.{strip_bytes}
+use Rattle.strip_call.specs.Need.{need_of}
 use Rattle.strip_call.specs.declared.answer.Built.{Built as Told}
 use Rattle.strip_call.specs.declared.answer.StripRefusal.{StripRefusal}
+use Rattle.strip_call.specs.declared.blocks.ModelRecords.{ModelRecords}
 
 -- What is met, the strip, reached and loose, and the contents of the work slices.
 pub record Parts : Type 0 where
@@ -78,9 +80,12 @@ abbrev pub Ends : Outcome → ℕ → List ℕ → List ℕ → List ℕ → Res
 Ends o need first second output (Err why) first' second' output' = BuildRefused o why need first second output first' second' output'
 Ends o need first second output (Ok built) first' second' output' = Says o (Ok built) first' second' output'
 
-abbrev pub Leaves : Records → Records → List ℕ → List ℕ → List ℕ → Result Told StripRefusal → List ℕ → List ℕ → List ℕ → Type 0
-Leaves bones morphs first second output =
-    Ends (outcome_of first second output (bones.block.records.count + morphs.block.records.count) (parts_of bones.section.now bones.block morphs.block)) (bones.block.records.count + morphs.block.records.count) first second output
+-- The outcome for the records of both kinds.
+abbrev pub records_outcome : ModelRecords → List ℕ → List ℕ → List ℕ → Outcome
+records_outcome r first second output = outcome_of first second output (need_of r) (parts_of r.bones.section.now r.bones.block r.morphs.block)
+
+abbrev pub Leaves : ModelRecords → List ℕ → List ℕ → List ℕ → Result Told StripRefusal → List ℕ → List ℕ → List ℕ → Type 0
+Leaves r first second output = Ends (records_outcome r first second output) (need_of r) first second output
 
 -- The model that reading a section from some start gives.
 pub record WasRead (s : List ℕ) (m : Model) : Type 0 where

@@ -4,6 +4,8 @@ ghost use Rattle.std.specs.Prelude.{◌≡◌};
 use binary::refusal::Refusal;
 use chains::block::Kind;
 use chains::fault::Fault;
+use std::error::Error;
+use std::fmt;
 
 // How many links a build followed, and how many records are loose.
 #[derive(Clone, Copy, Debug, PartialEq, Eq)]
@@ -54,3 +56,41 @@ impl StripRefusal {
         }
     }
 }
+
+// The number, and its values.
+impl fmt::Display for StripRefusal {
+    fn fmt<W: fmt::Write>(&self, f: &mut fmt::Formatter<W>) -> fmt::Result {
+        match *self {
+            StripRefusal::Reading(why) => write!(f, "{why}"),
+            StripRefusal::Build(_, count, fault) => {
+                write!(f, "{}: ", fault.number())?;
+                match fault {
+                    Fault::NegativeIndex(index) | Fault::RepeatedIndex(index) => write!(
+                        f,
+                        "{index}"
+                    ),
+                    Fault::IndexBelowCount(index) => write!(f, "{index} {count}"),
+                    Fault::Missing(track, link) | Fault::Cycle(track, link) => write!(
+                        f,
+                        "{track} {link}"
+                    ),
+                    Fault::Wrong(track, link, found, expected) => {
+                        write!(f, "{track} {link} {found} {expected}")
+                    }
+                    Fault::NegativeFrame(track, frame) | Fault::RepeatedFrame(track, frame) => {
+                        write!(f, "{track} {frame}")
+                    }
+                    Fault::Translation(bone, frame) | Fault::Orientation(bone, frame) => {
+                        write!(f, "{} {frame}", bone.0)
+                    }
+                    Fault::Weight(morph, frame) => write!(f, "{} {frame}", morph.0),
+                    Fault::Disconnected(records) => write!(f, "{records}"),
+                }
+            }
+            StripRefusal::WorkTooShort(need) => write!(f, "17: {need}"),
+            StripRefusal::OutputTooShort(length) => write!(f, "18: {length}"),
+        }
+    }
+}
+
+impl Error for StripRefusal {}

@@ -1,8 +1,11 @@
 // Where a model section's records of a kind stand.
-ghost use Rattle.std.specs.Prelude.{◌≡◌};
+ghost use Rattle.std.specs.Prelude.{◌≡◌, ◌≤◌, length};
+ghost use Rattle.std.proofs.Math.Option.{none};
 ghost use Rattle.strip_call.specs.Blocks.{block_of, items_of, model_block};
+ghost use Rattle.strip_call.specs.Building.{kind_meets};
+ghost use Rattle.strip_call.specs.Bytes.{strip_bytes};
 
-use chains::block::{Block, Kind};
+use chains::block::{Block, Kind, Records};
 use order::field::Field;
 use section::keyframes::Keyframes;
 use section::model::Model;
@@ -39,5 +42,25 @@ pub fn model_block(kind: Kind, m: &Model) -> Block
     match kind {
         Kind::Bone => block(kind, counts.bones.count as usize, m.keyframes.bones),
         Kind::Morph => block(kind, counts.morphs.count as usize, m.keyframes.morphs),
+    }
+}
+
+// The records of both kinds of a section. No strip that is built of them is longer than the section.
+#[derive(Clone, Copy)]
+pub struct ModelRecords<'a> {
+    pub bones: Records<'a>,
+    pub morphs: Records<'a>,
+    pub ghost one_section: { morphs.section.now ≡ bones.section.now },
+    pub ghost short: { kind_meets bones.section.now bones.block ≡ none → kind_meets bones.section.now morphs.block ≡ none → length (strip_bytes bones.section.now bones.block morphs.block) ≤ length bones.section.now },
+}
+
+impl<'a> ModelRecords<'a> {
+    ghost use Rattle.strip_call.specs.Need.{need_of};
+
+    // How many places of each work slice they take.
+    pub fn need(&self) -> usize
+        ensures { result ≡ need_of self.now }
+    {
+        self.bones.block.records.count + self.morphs.block.records.count
     }
 }

@@ -1,4 +1,5 @@
-// Document 01, "Build order", for one kind: the index scan, the tracks, and 15.
+// Document 01, "Build order", for one kind: the index scan, the tracks, and 15. The length of slices that are written is a clause, here and
+// in clip_build: a struct that lends them would have to keep its fact at each write.
 ghost use Rattle.std.proofs.Math.Option.{none};
 ghost use Rattle.std.specs.Prelude.{◌≡◌, length};
 ghost use Rattle.clip.specs.Scan.{scan};
@@ -29,6 +30,7 @@ fn report(counts: Counts) -> Result<Counted, Fault>
 }
 
 // The tracks and 15, where the index scan has passed: at once if they are as MMD writes them, else in document 01's order.
+#[tactic(auto, using(crate::proofs::Built::kinds))]
 fn build_tracks(indexed: &Indexed, marks: &mut [u16]) -> Result<Counted, Fault>
     requires scans { scan (kind_of indexed.now.records.block.kind) (links indexed.now.records.section.now indexed.now.records.block) ≡ none }
     requires marks_len { length marks.old ≡ indexed.now.records.block.records.count }
@@ -43,6 +45,7 @@ fn build_tracks(indexed: &Indexed, marks: &mut [u16]) -> Result<Counted, Fault>
     report(mark::mark(&chains, marks))
 }
 
+#[tactic(auto, using(crate::proofs::Built::kinds))]
 pub fn build_kind(records: &Records, slots: &mut [u16], marks: &mut [u16]) -> Result<Counted, Fault>
     requires slots_len { length slots.old ≡ records.now.block.records.count }
     requires marks_len { length marks.old ≡ records.now.block.records.count }

@@ -5,9 +5,11 @@ ghost use Rattle.strip.specs.Strip.{count_width};
 ghost use Rattle.strip.specs.Call.{slices_tested, strip_call};
 ghost use Rattle.clip.specs.Section.{bones, morphs};
 ghost use Rattle.strip_call.specs.Answers.{Says};
-ghost use Rattle.strip_call.specs.Outcomes.{outcome_of, parts_of, Leaves, Strippable, WasRead};
+ghost use Rattle.strip_call.specs.Need.{need_of};
+ghost use Rattle.strip_call.specs.Outcomes.{records_outcome, Leaves, WasRead};
 
 use crate::answer::{Built, StripRefusal};
+use crate::blocks::ModelRecords;
 use crate::clip_bytes::Clip;
 use crate::{blocks, clip_build};
 use chains::block::{Kind, Records};
@@ -20,30 +22,28 @@ use section::model::Model;
 
 // The clip is built, and its strip written. A refusal leaves the work slices as the build left them.
 fn build_and_write<'a>(
-    of_bones: &Records<'a>,
-    of_morphs: &Records<'a>,
+    records: &ModelRecords<'a>,
     first: &mut [u16],
     second: &mut [u16],
     output: &mut [u8],
 ) -> Result<Built, StripRefusal>
-    requires { Strippable of_bones.now of_morphs.now first.old second.old }
-    ensures { Leaves of_bones.now of_morphs.now first.old second.old output.old result first.new second.new output.new }
+    requires first_long_enough { need_of records.now ≤ length first.old }
+    requires second_long_enough { need_of records.now ≤ length second.old }
+    ensures { Leaves records.now first.old second.old output.old result first.new second.new output.new }
 {
-    let counted = clip_build::build_clip(of_bones, of_morphs, first, second)?;
-    let middle = of_bones.block.records.count;
-    let end = middle + of_morphs.block.records.count;
-    let slots = &first[..];
+    let counted = clip_build::build_clip(records, first, second)?;
+    let (bones, morphs) = first[..records.need()].split_at(records.bones.block.records.count);
     let clip = Clip {
         bones: Chains {
             indexed: Indexed {
-                records: *of_bones,
-                slots: &slots[..middle],
+                records: records.bones,
+                slots: bones,
             },
         },
         morphs: Chains {
             indexed: Indexed {
-                records: *of_morphs,
-                slots: &slots[middle..end],
+                records: records.morphs,
+                slots: morphs,
             },
         },
     };
@@ -60,18 +60,18 @@ fn build_and_write<'a>(
 
 // Refused: "3 to 15 and 18 leave the first A + B places of both u16 slices 0".
 fn strip_records(
-    of_bones: &Records,
-    of_morphs: &Records,
+    records: &ModelRecords,
     first: &mut [u16],
     second: &mut [u16],
     output: &mut [u8],
 ) -> Result<Built, StripRefusal>
-    requires { Strippable of_bones.now of_morphs.now first.old second.old }
-    ensures { Says (outcome_of first.old second.old output.old (of_bones.now.block.records.count + of_morphs.now.block.records.count) (parts_of of_bones.now.section.now of_bones.now.block of_morphs.now.block)) result first.new second.new output.new }
+    requires first_long_enough { need_of records.now ≤ length first.old }
+    requires second_long_enough { need_of records.now ≤ length second.old }
+    ensures { Says (records_outcome records.now first.old second.old output.old) result first.new second.new output.new }
 {
-    let built = build_and_write(of_bones, of_morphs, first, second, output);
+    let built = build_and_write(records, first, second, output);
     if built.is_err() {
-        let need = of_bones.block.records.count + of_morphs.block.records.count;
+        let need = records.need();
         first[..need].fill(0);
         second[..need].fill(0);
     }
@@ -79,6 +79,7 @@ fn strip_records(
 }
 
 // The section is read.
+#[tactic(auto, using(crate::proofs::Called::refusals))]
 fn strip_model(
     s: &[u8],
     m: &Model,
@@ -89,22 +90,24 @@ fn strip_model(
     requires { WasRead s.now m.now }
     ensures { Says (slices_tested first.old second.old output.old count_width s.now m.now ((bones s.now m.now).additional + (morphs s.now m.now).additional)) result first.new second.new output.new }
 {
-    let of_bones = Records {
+    let bones = Records {
         section: s,
         block: blocks::model_block(Kind::Bone, m),
     };
-    let of_morphs = Records {
+    let morphs = Records {
         section: s,
         block: blocks::model_block(Kind::Morph, m),
     };
-    let need = of_bones.block.records.count + of_morphs.block.records.count;
+    let records = ModelRecords { bones, morphs };
+    let need = records.need();
     if first.len() < need || second.len() < need {
         return Err(StripRefusal::WorkTooShort(need));
     }
-    strip_records(&of_bones, &of_morphs, first, second, output)
+    strip_records(&records, first, second, output)
 }
 
 // Document 01, "The strip": every section, start and slices are taken.
+#[tactic(auto, using(crate::proofs::Called::refusals))]
 pub fn strip(
     section: &[u8],
     start: usize,

@@ -1,9 +1,11 @@
 // Document 01, module 5: all bones, then all morphs, in the parts of the work slices that belong to each kind.
 ghost use Rattle.std.specs.Prelude.{◌≡◌, ◌+◌, ◌≤◌, length};
 ghost use Rattle.strip_call.specs.Building.{PartBuilds, ClipBuilds};
+ghost use Rattle.strip_call.specs.Need.{need_of};
 ghost use Rattle.strip_call.specs.Parts.{part, Outside};
 
 use crate::answer::{Counted, StripRefusal};
+use crate::blocks::ModelRecords;
 use crate::build;
 use chains::block::Records;
 
@@ -22,28 +24,28 @@ fn build_part(
 {
     let block = records.block;
     let end = from + block.records.count;
-    // No `map_err`: the check reads the two arms as they stand; of the closure it would need a proof by hand.
+    // Tried by `map_err`: the check reads the two arms as they stand; of the closure it would need a proof by hand.
     match build::build_kind(records, &mut first[from..end], &mut second[from..end]) {
         Ok(counted) => Ok(counted),
         Err(fault) => Err(StripRefusal::Build(block.kind, block.initials.count, fault)),
     }
 }
 
+#[tactic(auto, using(crate::proofs::PartLaws::clip_parts))]
 pub fn build_clip(
-    bones: &Records,
-    morphs: &Records,
+    records: &ModelRecords,
     first: &mut [u16],
     second: &mut [u16],
 ) -> Result<Counted, StripRefusal>
-    requires one_section { morphs.now.section.now ≡ bones.now.section.now }
-    requires first_long_enough { bones.now.block.records.count + morphs.now.block.records.count ≤ length first.old }
-    requires second_long_enough { bones.now.block.records.count + morphs.now.block.records.count ≤ length second.old }
-    ensures builds { ClipBuilds bones.now.section.now bones.now.block morphs.now.block first.new second.new result }
-    ensures first_outside { Outside 0 (bones.now.block.records.count + morphs.now.block.records.count) first.old first.new }
-    ensures second_outside { Outside 0 (bones.now.block.records.count + morphs.now.block.records.count) second.old second.new }
+    requires first_long_enough { need_of records.now ≤ length first.old }
+    requires second_long_enough { need_of records.now ≤ length second.old }
+    ensures builds { ClipBuilds records.now.bones.section.now records.now.bones.block records.now.morphs.block first.new second.new result }
+    ensures first_outside { Outside 0 (need_of records.now) first.old first.new }
+    ensures second_outside { Outside 0 (need_of records.now) second.old second.new }
 {
-    let of_bones = build_part(bones, 0, first, second)?;
-    let of_morphs = build_part(morphs, bones.block.records.count, first, second)?;
+    let of_bones = build_part(&records.bones, 0, first, second)?;
+    let behind = records.bones.block.records.count;
+    let of_morphs = build_part(&records.morphs, behind, first, second)?;
     Ok(Counted {
         reached: of_bones.reached + of_morphs.reached,
         loose: of_bones.loose + of_morphs.loose,

@@ -20,6 +20,7 @@ impl<'a> Clip<'a> {
     ghost use Rattle.keys.specs.Placed.{Room, Wrote};
     ghost use Rattle.strip_call.specs.Clip.{bytes_of};
 
+    #[tactic(auto, using(crate::proofs::Pieces::measured))]
     pub fn length(&self) -> usize
         ensures { result ≡ length (bytes_of self.now) }
     {
@@ -36,6 +37,7 @@ impl<'a> Clip<'a> {
         self.length() <= bytes
     }
 
+    #[tactic(auto, using(crate::proofs::Pieces::pieces))]
     pub fn write(&self, output: &mut [u8]) -> usize
         requires { Room 0 (bytes_of self.now) output.old }
         ensures { Wrote 0 (bytes_of self.now) output.old result output.new }

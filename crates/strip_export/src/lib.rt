@@ -1,4 +1,4 @@
-// The strip call of document 01 for C.
+// The strip call of document 01 for C, which has no enum with values: a refusal is its number, as a u32, and its values are u64 in a slice.
 #![tactic(auto)]
 
 pub mod call;

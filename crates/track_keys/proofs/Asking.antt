@@ -11,7 +11,6 @@ use lib.Dec.{eqb}
 use lib.IntN.{pos}
 use lib.ListN.{length, get_or, take, drop_of_length-le}
 use lib.Seq.{length-take-le}
-use Rattle.order.specs.Repeat.{FirstRepeat}
 use Rattle.layout.specs.Walk.{Refusal}
 use Rattle.clip.specs.First.{given, ◌or◌}
 use Rattle.clip.specs.Fields.{refusal_of, signed, negative}
@@ -23,9 +22,8 @@ use Rattle.clip.proofs.Chained.{all-below}
 use Rattle.clip.proofs.Follow.{is-chain}
 use Rattle.chains.specs.Block.{kind_of, links}
 use Rattle.chains.specs.Lookup.{Ordered}
-use Rattle.chains.specs.Fault.{met_read}
 use Rattle.track_keys.specs.Keys.{asked_at, key_meets}
-use Rattle.track_keys.specs.Tracks.{meets, tracks_meet, frames_of, left}
+use Rattle.track_keys.specs.Tracks.{meets, tracks_meet, left}
 use Rattle.track_keys.specs.Ready.{Keyed, Readies}
 use Rattle.track_keys.specs.declared.ready.Keys.{Keys}
 use Rattle.chains.specs.declared.block.Block.{Block}
@@ -66,13 +64,6 @@ module _ {s : List ℕ} {b : Block} {slots : List ℕ} {track : ℕ} {list : Lis
 
   listed-many : length (take n list) ≡ n
   listed-many = length-take-le n list (omega (arith, k.keys.many, k.room))
-
-  pub asking : {met : Result (Unit {0}) Fault} → met ≡ Ok tt → Asking s b track (take n list) again 0 met
-  asking nothing = record { before = some-again again k.keys.repeat; so_far = k.keys.so_far; nothing = nothing }
-    where
-      some-again : (again : ℕ) → FirstRepeat (frames_of (links s b) track (take n list)) (n + 1) again → 0 < again
-      some-again zero repeat = absurd (let a = (repeat.again (omega arith)).1 in omega (arith, a))
-      some-again (suc m) repeat = omega arith
 
   below_at : (m : ℕ) (ps : List ℕ) → AllBelow m ps → (i : ℕ) → i < length ps → get_or ps i 0 < m
   below_at m [] all i lt = absurd (omega arith)
@@ -124,6 +115,3 @@ module _ {s : List ℕ} {b : Block} {slots : List ℕ} {track : ℕ} {list : Lis
 
 pub tracking : (s : List ℕ) (b : Block) (list : List ℕ) → Tracking s b list list (Ok tt) 0
 tracking s b list = record { before = none_first 0 (meets s b) (λ t lt. absurd (omega arith)); same = refl; nothing = refl }
-
-pub tracked-all : {s : List ℕ} {b : Block} {list₀ list : List ℕ} {met : Result (Unit {0}) Fault} {track : ℕ} → Tracking s b list₀ list met track → track ≡ b.initials.count → met_read (kind_of b.kind) b.initials.count met ≡ tracks_meet s b b.initials.count
-tracked-all {s} {b} t all = rw t.nothing (sym (subst (λ (k : ℕ). tracks_meet s b k ≡ none) all t.before))

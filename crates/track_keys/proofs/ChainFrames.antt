@@ -20,9 +20,9 @@ use Rattle.clip.proofs.Counting.{Distinct}
 use Rattle.chains.specs.Block.{Fits, links}
 use Rattle.chains.specs.Chain.{chain_at, Ends}
 use Rattle.chains.proofs.AlongChain.{chain-below}
-use Rattle.track_keys.specs.Frames.{frames_at, Rising}
+use Rattle.track_keys.specs.Frames.{frames_at}
 use Rattle.chains.specs.declared.block.Block.{Block}
-use Rattle.track_keys.proofs.FirstRepeats.{none-repeated, rising-more}
+use Rattle.track_keys.proofs.FirstRepeats.{none-repeated}
 use Rattle.track_keys.proofs.Numbered.{Turn}
 use Rattle.track_keys.proofs.ListedChain.{chain-distinct}
 
@@ -68,16 +68,6 @@ turn-below {b = b} x {n} t = subst (λ (q : ℕ). q < b.records.count) (sym t.is
 
 -- A list that holds the chain.
 module _ (s : List ℕ) (b : Block) (track : ℕ) {list : List ℕ} (held : list ≡ chain_at s b track) where
-  -- The frame of the record at a place.
-  pub held-frame : (i : ℕ) {frame : ℕ} → frame ≡ ((links s b).at (get_or list i 0)).frame → frame ≡ frames_at s b track (i + 1)
-  held-frame i is = is ∙ ap (λ (ps : List ℕ). ((links s b).at (get_or ps i 0)).frame) held ∙ ap (frames_at s b track) (sym (add-one i))
-
-  -- One record more, whose frame is above the last one.
-  pub rising-record : {i last frame : ℕ} → last ≡ frames_at s b track i → Rising (frames_at s b track) (length list) i → i < length list → frame ≡ ((links s b).at (get_or list i 0)).frame → last < frame → (frame ≡ frames_at s b track (i + 1)) × Rising (frames_at s b track) (length list) (i + 1)
-  rising-record {i} is x lt here up =
-      let next = held-frame i here in
-      (next, rising-more (frames_at s b track) (length list) i x lt (omega (arith, is, next, up)))
-
   module _ {slots : List ℕ} (x : Ends s b slots track) where
     pub held_below : AllBelow b.records.count list
     held_below = rw held (chain-below x)

@@ -1,5 +1,5 @@
 -- The span of the frames of a track's keys, and the chain followed again, its frames told apart by their flags. Assumes nothing.
-use Prim.Native.Nat.{ℕ, ◌+◌, ◌-◌, ◌≤◌, ◌<◌, min, max}
+use Prim.Native.Nat.{ℕ, ◌+◌, ◌-◌, ◌≤◌, ◌<◌}
 use native.Mathlib.Omega.{arith}
 use mathlib.Core.Bool.{Bool, true, false}
 use mathlib.Core.List.{List}
@@ -8,7 +8,6 @@ use lib.ListN.{length, replicate, length-replicate}
 use Rattle.flags.specs.Flags.{Raised}
 use Rattle.flags.proofs.Meeting.{Met, none-met, met-new, met-before, met-more}
 use Rattle.order.specs.Repeat.{FirstRepeat, Repeats}
-use Rattle.order.proofs.Times.{equal_or_not}
 use Rattle.track_keys.specs.Close.{Spans}
 use Rattle.track_keys.specs.declared.span.Span.{Span}
 use Rattle.track_keys.proofs.FirstRepeats.{none-repeated, apart-one, repeat-here, apart-more}
@@ -18,20 +17,6 @@ pub record Spanning (f : ℕ → ℕ) (n least greatest : ℕ) : Type 0 where
   pub ordered : least ≤ greatest
   pub above : (i : ℕ) → i ≤ n → least ≤ f i
   pub under : (i : ℕ) → i ≤ n → f i ≤ greatest
-
-pub spanning-one : (f : ℕ → ℕ) {first : ℕ} → first ≡ f 0 → Spanning f 0 first first
-spanning-one f {first} is = record { ordered = omega arith; above = λ i most. omega (arith, is, same i most); under = λ i most. omega (arith, is, same i most) }
-  where
-    same : (i : ℕ) → i ≤ 0 → f i ≡ f 0
-    same i most = let z : i ≡ 0 = omega arith in ap f z
-
-pub spanning-more : {f : ℕ → ℕ} {n least greatest : ℕ} → Spanning f n least greatest → {frame : ℕ} → frame ≡ f (n + 1) → {low high : ℕ} → low ≡ min least frame → high ≡ max greatest frame → Spanning f (n + 1) low high
-spanning-more {f} {n} x is low-is high-is =
-    record {
-      ordered = omega (arith, x.ordered, low-is, high-is);
-      above = λ i most. equal_or_not i (n + 1) (λ last. omega (arith, is, low-is, ap f last)) (λ other. omega (arith, low-is, x.above i (omega (arith, other))));
-      under = λ i most. equal_or_not i (n + 1) (λ last. omega (arith, is, high-is, ap f last)) (λ other. omega (arith, high-is, x.under i (omega (arith, other))));
-    }
 
 -- f 0, .., f i are different, and the flags that are up are theirs.
 pub record Flagged (f : ℕ → ℕ) (least n : ℕ) (list : List ℕ) (i : ℕ) : Type 0 where

@@ -30,9 +30,6 @@ module _ (f : ℕ → ℕ) where
         (λ before. apart j k lt (omega (arith, before)) same)
 
   module _ (n : ℕ) where
-    pub rising-starts : Rising f n 0
-    rising-starts = record { most = omega arith; rises = λ i j lt most. absurd (omega arith) }
-
     pub rising-more : (r : ℕ) → Rising f n r → r < n → f r < f (r + 1) → Rising f n (r + 1)
     rising-more r x inside up =
         record {
@@ -42,6 +39,3 @@ module _ (f : ℕ → ℕ) where
               (λ last. subst (λ k. f i < f k) (sym last) (equal_or_not i r (λ same. subst (λ k. f k < f (r + 1)) (sym same) up) (λ other. let before = x.rises i r (omega (arith, other)) (omega arith) in omega (arith, before, up))))
               (λ other. x.rises i j lt (omega (arith, other)));
         }
-
-    pub rising-apart : (r : ℕ) → Rising f n r → Repeats f (r + 1) false
-    rising-apart r x i j lt inside same = let up = x.rises i j lt (omega arith) in omega (arith, up, same)

@@ -2,18 +2,17 @@
 use Prim.Native.Nat.{ℕ, zero, suc, ◌<◌}
 use native.Mathlib.Omega.{arith}
 use mathlib.Core.Bool.{true, false}
-use mathlib.Core.List.{List, [], ◌∷◌}
-use mathlib.Core.Option.{Option, some}
+use mathlib.Core.List.{List}
+use mathlib.Core.Option.{Option}
 use mathlib.Core.Path.{◌≡◌, refl, sym, ap, ◌∙◌}
 use borrow.Author.Tests.{eq-eqb, ne_eqb}
 use lib.Dec.{eqb}
-use lib.IntN.{pos}
 use lib.ListN.{length, get_or, drop}
 use lib.Seq.{drop-cons}
 use Rattle.layout.specs.Walk.{Refusal}
 use Rattle.clip.specs.First.{◌or◌, member}
-use Rattle.clip.specs.Fields.{Records, Kind, refusal_of, signed, negative}
-use Rattle.clip.specs.Keys.{key_test, body_refusal}
+use Rattle.clip.specs.Fields.{Records, Kind}
+use Rattle.clip.specs.Keys.{key_test}
 use Rattle.clip.specs.Build.{record_key, reached_before, records_refusal}
 use Rattle.order.specs.Repeat.{FirstRepeat}
 use Rattle.track_keys.specs.Tracks.{frames_of, earlier}
@@ -52,15 +51,3 @@ module _ {B : Type 0} (kind : Kind) (asked : B → Option ℕ) (r : Records B) (
     pub one : rest i ≡ (key_test kind asked t (earlier (frames_of r t ps) (suc i)) (record_key (r.at (get_or ps i 0))) or rest (suc i))
     unfolding records_refusal
     one = rw (drop-cons ps i 0 inside, new)
-
-    pub rest-negative : negative (r.at (get_or ps i 0)).frame ≡ true → rest i ≡ some (refusal_of kind 10 (pos t ∷ signed (r.at (get_or ps i 0)).frame ∷ []))
-    unfolding key_test
-    rest-negative e = one ∙ rw e
-
-    pub rest-repeated : negative (r.at (get_or ps i 0)).frame ≡ false → member (frames_of r t ps (suc i)) (earlier (frames_of r t ps) (suc i)) ≡ true → rest i ≡ some (refusal_of kind 11 (pos t ∷ signed (r.at (get_or ps i 0)).frame ∷ []))
-    unfolding key_test
-    rest-repeated e f = one ∙ rw (e, f)
-
-    pub rest-body : negative (r.at (get_or ps i 0)).frame ≡ false → member (frames_of r t ps (suc i)) (earlier (frames_of r t ps) (suc i)) ≡ false → rest i ≡ (body_refusal (asked (r.at (get_or ps i 0)).body) t (r.at (get_or ps i 0)).frame or rest (suc i))
-    unfolding key_test
-    rest-body e f = one ∙ rw (e, f)

@@ -1,6 +1,6 @@
 -- What is asked of one key, from what its frame and its body meet. Assumes nothing.
 use Prim.Native.Nat.{ℕ}
-use mathlib.Core.Bool.{Bool, false}
+use mathlib.Core.Bool.{Bool}
 use mathlib.Core.List.{List, [], ◌∷◌}
 use mathlib.Core.Option.{Option, none, some}
 use mathlib.Core.Path.{◌≡◌, refl, sym, ap, ◌∙◌}
@@ -31,10 +31,6 @@ module _ (s : List ℕ) (kind : Kind) (track frame body : ℕ) (repeated : Bool)
   -- One with nothing against it, and so much is asked of the body.
   pub body-asked : none ≡ frame_meets (kind_of kind) track frame repeated → {o : Option ℕ} → o ≡ asked_at s kind body → body_refusal o track frame ≡ key_meets s kind track frame body repeated
   body-asked fine is = ap (λ (o : Option ℕ). body_refusal o track frame) is ∙ sym (parts ∙ rw (sym fine))
-
--- A frame that is not negative and not repeated, and a body with nothing against it.
-pub fine-key : (s : List ℕ) (kind : Kind) (frame body : ℕ) → negative frame ≡ false → none ≡ asked_at s kind body → (track : ℕ) → none ≡ key_meets s kind track frame body false
-fine-key s kind frame body low is track = rw (low, sym is)
 
 -- A morph key is answered as it is asked.
 module _ (s : List ℕ) (track frame body : ℕ) (repeated : Bool) where

@@ -3,8 +3,8 @@
 ghost use Rattle.std.specs.Prelude.{◌≡◌, ◌+◌, ◌-◌, ◌≤◌, length};
 ghost use Rattle.flags.specs.Flags.{Raised};
 ghost use Rattle.order.specs.Repeat.{FirstRepeat};
-ghost use Rattle.chains.specs.Chain.{chain_at};
-ghost use Rattle.track_keys.specs.Frames.{frames_at};
+ghost use Rattle.chains.specs.Positions.{records_of};
+ghost use Rattle.track_keys.specs.Frames.{chain_frames};
 ghost use Rattle.track_keys.specs.Close.{Spans, EnoughFlags};
 
 use crate::span::Span;
@@ -13,8 +13,8 @@ use flags::bits;
 
 // The span of the frames of a track's keys, where the list holds its records.
 pub(crate) fn key_span(chain: &Chain, list: &[u16]) -> Span
-    requires { list.now ≡ chain_at chain.now.indexed.records.section.now chain.now.indexed.records.block chain.now.track }
-    ensures { Spans (frames_at chain.now.indexed.records.section.now chain.now.indexed.records.block chain.now.track) (length list.now) result }
+    requires { list.now ≡ records_of chain.now }
+    ensures { Spans (chain_frames chain.now) (length list.now) result }
 {
     let records = &chain.indexed.records;
     let first = records.first_frame(chain.track);
@@ -40,13 +40,13 @@ fn meet(span: Span, list: &mut [u16], frame: u32) -> bool
 
 // The first repeat. The flags take the list, so the chain is followed again by its links.
 pub(crate) fn flagged_again(chain: &Chain, span: Span, list: &mut [u16]) -> usize
-    requires list_len { length list.old ≡ length (chain_at chain.now.indexed.records.section.now chain.now.indexed.records.block chain.now.track) }
-    requires spans { Spans (frames_at chain.now.indexed.records.section.now chain.now.indexed.records.block chain.now.track) (length list.old) span }
+    requires list_len { length list.old ≡ length (records_of chain.now) }
+    requires spans { Spans (chain_frames chain.now) (length list.old) span }
     requires enough_flags { EnoughFlags span (length list.old) }
-    ensures { FirstRepeat (frames_at chain.now.indexed.records.section.now chain.now.indexed.records.block chain.now.track) (length list.old + 1) result }
+    ensures { FirstRepeat (chain_frames chain.now) (length list.old + 1) result }
 {
     let records = &chain.indexed.records;
-    bits::clear(list);
+    list.fill(0);
     let first = records.first_frame(chain.track);
     meet(span, list, first);
     for (i, p) in chain.positions().enumerate() {

@@ -1,8 +1,8 @@
 // 11: the first key of a track whose frame an earlier key has. Key 0 is the initial record's, key i + 1 that of the record listed at i.
 ghost use Rattle.std.specs.Prelude.{◌≡◌, ◌+◌, length};
 ghost use Rattle.order.specs.Repeat.{FirstRepeat};
-ghost use Rattle.chains.specs.Chain.{chain_at};
-ghost use Rattle.track_keys.specs.Frames.{frames_at, Rising};
+ghost use Rattle.chains.specs.Positions.{records_of};
+ghost use Rattle.track_keys.specs.Frames.{chain_frames, Rising};
 
 use crate::close;
 use chains::chain::Chain;
@@ -13,8 +13,8 @@ use order::{met, repeats};
 
 // The last key up to which frames rise, where the list holds the chain.
 fn rising(chain: &Chain, list: &[u16]) -> usize
-    requires { list.now ≡ chain_at chain.now.indexed.records.section.now chain.now.indexed.records.block chain.now.track }
-    ensures { Rising (frames_at chain.now.indexed.records.section.now chain.now.indexed.records.block chain.now.track) (length list.now) result }
+    requires { list.now ≡ records_of chain.now }
+    ensures { Rising (chain_frames chain.now) (length list.now) result }
 {
     let records = &chain.indexed.records;
     let mut last = records.first_frame(chain.track);
@@ -30,8 +30,8 @@ fn rising(chain: &Chain, list: &[u16]) -> usize
 
 // The chain in the list, whatever the list held.
 fn list_again(chain: &Chain, list: &mut [u16])
-    requires { length list.old ≡ length (chain_at chain.now.indexed.records.section.now chain.now.indexed.records.block chain.now.track) }
-    ensures { list.new ≡ chain_at chain.now.indexed.records.section.now chain.now.indexed.records.block chain.now.track }
+    requires { length list.old ≡ length (records_of chain.now) }
+    ensures { list.new ≡ records_of chain.now }
 {
     for (i, p) in chain.positions().enumerate() {
         list[i] = p as u16;
@@ -41,16 +41,15 @@ fn list_again(chain: &Chain, list: &mut [u16])
 // The first repeat, where the list holds the chain. Sorted by frame, the list tells whether there is one. Then the chain is followed again
 // by its links, and each frame met is marked in the list.
 fn met_again(chain: &Chain, list: &mut [u16]) -> usize
-    requires { list.old ≡ chain_at chain.now.indexed.records.section.now chain.now.indexed.records.block chain.now.track }
-    ensures { FirstRepeat (frames_at chain.now.indexed.records.section.now chain.now.indexed.records.block chain.now.track) (length list.old + 1) result }
+    requires { list.old ≡ records_of chain.now }
+    ensures { FirstRepeat (chain_frames chain.now) (length list.old + 1) result }
 {
     let records = &chain.indexed.records;
     let first = records.first_frame(chain.track);
     let block = records.block;
     let field = Field {
         first: block.records.first + 4,
-        width: block.records.width,
-        count: block.records.count,
+        ..block.records
     };
     let frames = Numbers {
         section: records.section,
@@ -73,8 +72,8 @@ fn met_again(chain: &Chain, list: &mut [u16]) -> usize
 
 // The first repeat, where the list holds the chain.
 fn in_any_order(chain: &Chain, list: &mut [u16]) -> usize
-    requires { list.old ≡ chain_at chain.now.indexed.records.section.now chain.now.indexed.records.block chain.now.track }
-    ensures { FirstRepeat (frames_at chain.now.indexed.records.section.now chain.now.indexed.records.block chain.now.track) (length list.old + 1) result }
+    requires { list.old ≡ records_of chain.now }
+    ensures { FirstRepeat (chain_frames chain.now) (length list.old + 1) result }
 {
     let span = close::key_span(chain, list);
     if span.enough_flags(list.len()) {
@@ -86,8 +85,8 @@ fn in_any_order(chain: &Chain, list: &mut [u16]) -> usize
 // The number of keys if no frame is repeated. Frames that rise cost one pass. Others that lie close together cost a flag for each key; any
 // others one sort of the list, and if one is repeated, a search in it for each key. Both lose the chain, which is listed again at the end.
 pub fn first_repeated_frame(chain: &Chain, list: &mut [u16]) -> usize
-    requires { list.old ≡ chain_at chain.now.indexed.records.section.now chain.now.indexed.records.block chain.now.track }
-    ensures first_repeat { FirstRepeat (frames_at chain.now.indexed.records.section.now chain.now.indexed.records.block chain.now.track) (length list.old + 1) result }
+    requires { list.old ≡ records_of chain.now }
+    ensures first_repeat { FirstRepeat (chain_frames chain.now) (length list.old + 1) result }
     ensures list_unchanged { list.new ≡ list.old }
 {
     let apart = rising(chain, list);

@@ -27,7 +27,7 @@ pub enum MorphKey {
 fn frame_asked(track: u32, frame: u32, repeated: bool) -> Result<(), Fault>
     ensures { (kind : Fields.Kind) (count : ℕ) → met_read kind count result ≡ frame_meets kind track frame repeated }
 {
-    if 2147483648 <= frame {
+    if frame.cast_signed() < 0 {
         return Err(Fault::NegativeFrame(track as usize, frame));
     }
     if repeated {
@@ -40,7 +40,7 @@ fn bone_key(body: &BoneBody, track: BoneIndex, frame: u32, repeated: bool) -> Re
     ensures { (count : ℕ) → met_read bone count result ≡ key_meets body.now.section.now Kind.Bone track.0 frame body.now.at repeated }
 {
     frame_asked(track.0, frame, repeated)?;
-    // No `map_err`: the check reads the arms as they stand; of the closure it would need a proof by hand.
+    // Tried by `map_err`: the check reads the arms as they stand; of the closure it would need a proof by hand.
     match body.asked() {
         Ok(()) => Ok(()),
         Err(PoseFault::Translation) => Err(Fault::Translation(track, frame)),
@@ -62,6 +62,7 @@ pub fn morph_key(body: &MorphBody, track: MorphIndex, frame: u32, repeated: bool
     }
 }
 
+// A body is made where it is asked, here, below and in writing: an enum of the two would be matched at once again.
 pub fn key(key: &Key, track: usize, repeated: bool) -> Result<(), Fault>
     requires { track < 4294967296 }
     ensures { (count : ℕ) → met_read (kind_of key.now.kind) count result ≡ key_meets key.now.section.now key.now.kind track key.now.frame key.now.at repeated }
@@ -100,7 +101,7 @@ fn body_fine(key: &Key) -> bool
 pub fn fine(key: &Key) -> bool
     ensures { result ≡ true → (track : ℕ) → none ≡ key_meets key.now.section.now key.now.kind track key.now.frame key.now.at false }
 {
-    if 2147483648 <= key.frame {
+    if key.frame.cast_signed() < 0 {
         return false;
     }
     body_fine(key)

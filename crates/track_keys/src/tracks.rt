@@ -1,5 +1,6 @@
 // Document 01, "Build order": "Then each track: its whole chain (6, 7, 8), then for each key, initial first, 9 to 13." 9 is never met (clip,
-// proofs/Shared.antt), so nothing asks for it here.
+// proofs/Shared.antt), so nothing asks for it here. The length of a list that is written is a clause, here and in ready and close: it is no
+// `Slots`, which would have to keep its fact at each write.
 ghost use Rattle.std.specs.Prelude.{◌≡◌, ◌<◌, ◌≤◌, length};
 ghost use Rattle.chains.specs.Block.{kind_of, links};
 ghost use Rattle.chains.specs.Fault.{met_read};

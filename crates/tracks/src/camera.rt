@@ -195,6 +195,6 @@ pub fn camera_interpolation(
 {
     match CameraKeyframeSummary::read(section, start, include_index, number) {
         Ok(c) => parts::part(section, c.offsets.interpolation_offset, 24),
-        Err(_) => &section[..0],
+        Err(_) => &[],
     }
 }

@@ -1,4 +1,5 @@
-// Document 01, module 7: camera and light sections, their records by number, and payloads as parts of the section.
+// Document 01, module 7: camera and light sections, their records by number, and payloads as parts of the section. The readers of the two
+// kinds are alike in shape alone: each names its own fields, and the four that say which record are handed on as lists, keyframe has them.
 #![tactic(auto)]
 
 pub mod camera;

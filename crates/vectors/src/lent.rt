@@ -1,22 +1,38 @@
 // A slice that is lent to a call, and what it must hold afterwards.
-ghost use Rattle.std.specs.Prelude.{true, ◌≡◌, ◌≤◌, length};
+ghost use Rattle.std.specs.Prelude.{true, ◌≡◌, ◌≤◌, ◌*◌, ℕ, List, length, take, drop};
+ghost use Rattle.std.specs.Int.{from_le_bytes, w8, w16, w64};
+ghost use Rattle.vectors.specs.Fields.{padded};
 
 use crate::fields::Fields;
 
-// What a slice has: bytes, numbers, or places of a work slice.
+// What a slice has: bytes, numbers, or places of a work slice. Each width has an impl of its own, two lines and two definitions.
 pub trait Place: Copy + PartialEq {
     // What stands there before a call: every byte is 0xa5.
     const BEFORE: Self;
-    // How many bytes a place has in the checks.
-    const WIDTH: usize;
 
-    fn read(fields: &mut Fields<'_>) -> Self;
+    ghost width: { ℕ };
+
+    ghost value: { List ℕ → Self };
+
+    // How many bytes a place has in the checks.
+    fn width() -> usize
+        ensures { result ≡ width };
+
+    fn read(fields: &mut Fields<'_>) -> Self
+        ensures value { result ≡ value fields.old.left.now }
+        ensures rest { fields.new.left.now ≡ drop width fields.old.left.now };
 }
 
 impl Place for u8 {
     const BEFORE: u8 = 0xa5;
 
-    const WIDTH: usize = 1;
+    ghost width = { 1 };
+
+    ghost value = { λ left. from_le_bytes w8 (padded 1 left) };
+
+    fn width() -> usize {
+        1
+    }
 
     fn read(fields: &mut Fields<'_>) -> u8 {
         fields.u8()
@@ -26,7 +42,13 @@ impl Place for u8 {
 impl Place for u16 {
     const BEFORE: u16 = 0xa5a5;
 
-    const WIDTH: usize = 2;
+    ghost width = { 2 };
+
+    ghost value = { λ left. from_le_bytes w16 (padded 2 left) };
+
+    fn width() -> usize {
+        2
+    }
 
     fn read(fields: &mut Fields<'_>) -> u16 {
         fields.u16()
@@ -36,7 +58,13 @@ impl Place for u16 {
 impl Place for u64 {
     const BEFORE: u64 = 0xa5a5_a5a5_a5a5_a5a5;
 
-    const WIDTH: usize = 8;
+    ghost width = { 8 };
+
+    ghost value = { λ left. from_le_bytes w64 (padded 8 left) };
+
+    fn width() -> usize {
+        8
+    }
 
     fn read(fields: &mut Fields<'_>) -> u64 {
         fields.u64()
@@ -58,10 +86,14 @@ pub struct Lent<'a> {
 
 impl<'a> Lent<'a> {
     // What the places held hold comes next in the checks.
-    pub fn read<T: Place>(size: Size, checks: &mut Fields<'a>) -> Lent<'a> {
+    pub fn read<T: Place>(size: Size, checks: &mut Fields<'a>) -> Lent<'a>
+        ensures size { result.size ≡ size }
+        ensures answer { result.answer.left.now ≡ take (size.held * T.width) checks.old.left.now }
+        ensures rest { checks.new.left.now ≡ drop (size.held * T.width) checks.old.left.now }
+    {
         Lent {
             size,
-            answer: checks.part(size.held.saturating_mul(T::WIDTH)),
+            answer: checks.part(size.held.saturating_mul(T::width())),
         }
     }
 

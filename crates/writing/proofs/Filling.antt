@@ -1,7 +1,7 @@
 -- What is written of a chain, and of the tracks, after some turns of a loop. Assumes nothing.
 use Prim.Native.Nat.{ℕ, ◌+◌, ◌≤◌, ◌<◌}
 use native.Mathlib.Omega.{arith}
-use mathlib.Core.List.{List, [], ◌∷◌, ◌++◌, append_assoc, append-nil}
+use mathlib.Core.List.{List, [], ◌∷◌, ◌++◌, append_assoc}
 use mathlib.Core.Path.{◌≡◌, sym, ap, ◌∙◌}
 use lib.ListN.{length, length-append}
 use Rattle.keys.specs.Placed.{Room, Wrote}
@@ -33,22 +33,6 @@ module _ {s : List ℕ} {b : Block} {slots : List ℕ} {track : ℕ} (x : Ends s
       let parts = length-append ps qs in
       let most = chain-most x in
       omega (arith, long, parts, most, f.many)
-
-  pub filled-length : length new ≡ length old
-  filled-length =
-      let within = records-within s b ps qs in
-      let all = ap (λ (l : List ℕ). length (records_bytes s b l)) f.part in
-      wrote-length place (records_bytes s b ps) old here new (omega (arith, within, all, room)) f.wrote
-
-  module _ (none : qs ≡ []) where
-    every : ps ≡ chain_at s b track
-    every = sym (append-nil ps) ∙ ap (λ (l : List ℕ). ps ++ l) (sym none) ∙ f.part
-
-    pub filled-many : n ≡ length (chain_at s b track)
-    filled-many = f.many ∙ ap (λ (l : List ℕ). length l) every
-
-    pub filled-all : Wrote place (records_bytes s b (chain_at s b track)) old here new
-    filled-all = rw every at f.wrote
 
   module _ (p : ℕ) (rest : List ℕ) (first : qs ≡ p ∷ rest) where
     part : ps ++ p ∷ rest ≡ chain_at s b track
@@ -85,11 +69,6 @@ module _ {s : List ℕ} {b : Block} {place : ℕ} {old : List ℕ} (room : Room 
   tracks-none = record { some = omega arith; wrote = rw (no-tracks s b) (wrote_none place old) }
 
   module _ {n here : ℕ} {new : List ℕ} (f : Filled s b place old n here new) where
-    pub tracks-length : length new ≡ length old
-    tracks-length =
-        let within = first-within s b b.initials.count n f.some in
-        wrote-length place (first_tracks s b n) old here new (omega (arith, within, room)) f.wrote
-
     module _ (lt : n < b.initials.count) where
       whole : Room place (first_tracks s b n ++ strip_track s b n) old
       whole =

@@ -1,7 +1,7 @@
 -- What is measured of a chain, and of the tracks, after some turns of a loop. Assumes nothing.
 use Prim.Native.Nat.{ℕ, ◌+◌, ◌≤◌, ◌<◌}
 use native.Mathlib.Omega.{arith}
-use mathlib.Core.List.{List, [], ◌∷◌, ◌++◌, append_assoc, append-nil}
+use mathlib.Core.List.{List, [], ◌∷◌, ◌++◌, append_assoc}
 use mathlib.Core.Path.{◌≡◌, sym, ap, ◌∙◌}
 use lib.ListN.{length, length-append}
 use Rattle.clip.specs.Build.{record_key}
@@ -15,7 +15,7 @@ use Rattle.chains.specs.declared.block.Block.{Block}
 use Rattle.chains.proofs.AlongChain.{chained, part-below}
 use Rattle.writing.specs.Tracks.{record_bytes, records_bytes, strip_track, first_tracks}
 use Rattle.writing.proofs.OfKind.{key-most}
-use Rattle.writing.proofs.Sums.{no-records, records-and, records-most, first_more, first-most, track-most}
+use Rattle.writing.proofs.Sums.{no-records, records-and, records-most, first_more, first-most, track-most, no-tracks}
 
 -- A chain has no more records than there are.
 pub chain-most : {s : List ℕ} {b : Block} {slots : List ℕ} {track : ℕ} → Ends s b slots track → length (chain_at s b track) ≤ 65534
@@ -35,9 +35,6 @@ pub measured-none : (s : List ℕ) (b : Block) (track : ℕ) {ahead : List ℕ} 
 measured-none s b track all = record { part = all; sum = sym (ap (λ (bs : List ℕ). length bs) (no-records s b)) }
 
 module _ {s : List ℕ} {b : Block} {slots : List ℕ} {track : ℕ} (x : Ends s b slots track) {ps qs : List ℕ} {bytes : ℕ} (m : Measures s b track ps qs bytes) where
-  pub measured-all : qs ≡ [] → bytes ≡ length (records_bytes s b (chain_at s b track))
-  measured-all none = m.sum ∙ ap (λ (l : List ℕ). length (records_bytes s b l)) (sym (append-nil ps) ∙ ap (λ (l : List ℕ). ps ++ l) (sym none) ∙ m.part)
-
   module _ (p : ℕ) (rest : List ℕ) (first : qs ≡ p ∷ rest) where
     part : ps ++ p ∷ rest ≡ chain_at s b track
     part = ap (λ (l : List ℕ). ps ++ l) (sym first) ∙ m.part
@@ -82,3 +79,5 @@ counted-more s b n so_far is =
     let front = ap (λ (bs : List ℕ). length bs) (first_more s b n) in
     let both = length-append (first_tracks s b n) (strip_track s b n) in
     omega (arith, front, both, so_far, is)
+
+pub ruleset measuring = (measured-none, counted-more, no-tracks)

@@ -51,3 +51,5 @@ module _ (s : List ℕ) where
       widths-most : (kind : Kind) → widths (groups_of kind) ≤ 44
       widths-most Kind.Bone = omega arith
       widths-most Kind.Morph = omega arith
+
+pub ruleset keys = (bone-key, morph-key, every-frame)

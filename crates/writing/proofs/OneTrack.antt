@@ -12,6 +12,7 @@ use Rattle.chains.specs.Chain.{chain_at}
 use Rattle.chains.specs.declared.block.Block.{Block}
 use Rattle.writing.specs.Tracks.{initial_bytes, records_bytes, strip_track}
 use Rattle.writing.proofs.Sums.{track-parts}
+use Rattle.writing.proofs.OfRecord.{of-initial}
 
 module _ (s : List ℕ) (b : Block) (track place : ℕ) (old : List ℕ) (room : Room place (strip_track s b track) old) where
   abbrev count : ℕ → List ℕ
@@ -58,3 +59,5 @@ module _ (s : List ℕ) (b : Block) (track place : ℕ) (old : List ℕ) (room :
       track-wrote n new is e =
           let after = subst (λ (at : ℕ). Wrote at (initial ++ records) old end mid) (sym two) keys in
           rw parts at (wrote-before place (count many) (initial ++ records) old all end mid new after (subst (λ (k : ℕ). new ≡ placed place (count k) mid) is e))
+
+pub ruleset rooms = (of-initial, records-room, count_room)

@@ -1,15 +1,11 @@
 -- The bytes of what a chain, or all chains, are of in a strip. Definitions only.
 use Rattle.std.specs.Prelude.{ℕ, List}
-use Rattle.chains.specs.Chain.{chain_at}
+use Rattle.chains.specs.Positions.{records_of}
 use Rattle.chains.specs.declared.chain.Chain.{Chain}
 use Rattle.chains.specs.declared.chain.Chains.{Chains}
 use Rattle.writing.specs.Tracks.{records_bytes, strip_track, strip_tracks}
 
--- The records of the chain.
-abbrev pub records_of : Chain → List ℕ
-records_of c = chain_at c.indexed.records.section.now c.indexed.records.block c.track
-
--- The keys of these; the track; all tracks.
+-- The keys of a chain's records; the track; all tracks.
 abbrev pub keys_bytes_of : Chain → List ℕ
 keys_bytes_of c = records_bytes c.indexed.records.section.now c.indexed.records.block (records_of c)
 

@@ -1,12 +1,14 @@
 // The keys of a track's chain, its initial record's apart.
 ghost use Rattle.std.specs.Prelude.{◌≡◌, length};
 ghost use Rattle.keys.specs.Placed.{Room, Wrote};
-ghost use Rattle.writing.specs.Chains.{records_of, keys_bytes_of};
+ghost use Rattle.chains.specs.Positions.{records_of};
+ghost use Rattle.writing.specs.Chains.{keys_bytes_of};
 
 use crate::key;
 use chains::chain::Chain;
 
 // How many bytes they have.
+#[tactic(auto, using(crate::proofs::Measuring::measuring))]
 pub fn measure(chain: &Chain) -> usize
     ensures { result ≡ length (keys_bytes_of chain.now) }
 {

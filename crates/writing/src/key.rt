@@ -7,6 +7,7 @@ use chains::block::Kind;
 use chains::key::Key;
 use keys::body::{BoneBody, MorphBody};
 
+#[tactic(auto, using(crate::proofs::OfKind::keys))]
 pub fn key_length(key: &Key) -> usize
     ensures { result ≡ length (bytes_of key.now) }
 {
@@ -20,6 +21,7 @@ pub fn key_length(key: &Key) -> usize
 
 // Inlined, so that a key need not stand in memory for the call.
 #[inline(always)]
+#[tactic(auto, using(crate::proofs::OfKind::keys))]
 pub fn write_key(key: &Key, output: &mut [u8], place: usize) -> usize
     requires { Room place (bytes_of key.now) output.old }
     ensures { Wrote place (bytes_of key.now) output.old result output.new }

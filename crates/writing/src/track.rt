@@ -14,6 +14,7 @@ pub fn track_length(chain: &Chain) -> usize
     2 + key::key_length(&initial) + chain::measure(chain)
 }
 
+#[tactic(auto, using(crate::proofs::OneTrack::rooms))]
 pub fn write_track(chain: &Chain, output: &mut [u8], place: usize) -> usize
     requires { Room place (track_of chain.now) output.old }
     ensures { Wrote place (track_of chain.now) output.old result output.new }

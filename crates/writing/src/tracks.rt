@@ -6,6 +6,7 @@ ghost use Rattle.writing.specs.Chains.{tracks_of};
 use crate::track;
 use chains::chain::Chains;
 
+#[tactic(auto, using(crate::proofs::Measuring::measuring))]
 pub fn tracks_length(chains: &Chains) -> usize
     ensures { result ≡ length (tracks_of chains.now) }
 {

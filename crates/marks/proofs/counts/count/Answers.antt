@@ -3,36 +3,14 @@ use native.Mathlib.Omega.{arith}
 use Rattle.std.proofs.Common.{ℕ, List, length, get_or, sym, ap, ◌∙◌}
 use Rattle.strip.specs.Work.{track_mark}
 use Rattle.chains.specs.Block.{kind_of, links}
-use Rattle.marks.proofs.Unreached.{all-reached, starts, below, done, passes, takes, leaves}
+use Rattle.marks.proofs.Unreached.{starts, passes, takes, leaves}
 use Rattle.marks.proofs.Marking.{zero-mark, some-mark}
 use Rattle.marks.proofs.Each.{length-each, each_at}
 use Rattle.marks.proofs.counts.count.Goals as goal
 use Rattle.marks.proofs.counts.count.Goals.{then-mark-eq0+then-unlinked, then-mark-eq0+else-unlinked, else-mark-eq0}
 
-pub returns-then-reached-records : goal.returns-then-reached-records
-returns-then-reached-records c =
-    let none_left = all-reached _ _ c.requires.indexed c.requires.all_end (sym c.requires.reached_value ∙ c.if-reached-records.true) in
-    rw (sym c.requires.reached_value, none_left.0, none_left.1)
-
 pub loop-p-init : goal.loop-p-init
 loop-p-init c = starts
-
-pub unlinked-requires : goal.unlinked-requires
-unlinked-requires c =
-    let long = ap length c.requires.marks_value ∙ length-each _ _ in
-    omega (arith, long, c.loop-p-test.true)
-
-pub overflow_add-loose : goal.overflow_add-loose
-overflow_add-loose c =
-    let so_far = below c.loop-p.invariant in
-    let long = ap length c.requires.marks_value ∙ length-each _ _ in
-    omega (arith, so_far, long, c.loop-p-test.true, c.args.records.now.fits.few_records)
-
-pub overflow_add-disconnected : goal.overflow_add-disconnected
-overflow_add-disconnected c =
-    let so_far = below c.loop-p.invariant in
-    let long = ap length c.requires.marks_value ∙ length-each _ _ in
-    omega (arith, so_far, long, c.loop-p-test.true, c.args.records.now.fits.few_records)
 
 pub loop-p-preserved : goal.loop-p-preserved
 loop-p-preserved c =
@@ -47,9 +25,3 @@ loop-p-preserved c =
       | then-mark-eq0+else-unlinked w ↦ rw (w.disconnected-is, w.loose-is) (leaves c.loop-p.invariant (zero (sym mark ∙ w.if-mark-eq0.true)) (sym w.unlinked.ensures ∙ w.if-unlinked.false))
       | else-mark-eq0 w ↦ rw (w.disconnected-is, w.loose-is) (passes c.loop-p.invariant (some (λ e. w.if-mark-eq0.false (mark ∙ e))))
     ]
-
-pub returns : goal.returns
-returns c =
-    let long = ap length c.requires.marks_value ∙ length-each _ _ in
-    let all = done c.loop-p.invariant (omega (arith, long, c.loop-p-test.false, c.loop-p.auto.p-end)) in
-    rw (all.0, all.1, sym c.requires.reached_value)

@@ -1,19 +1,10 @@
 -- `mark_tracks` meets its contract. Assumes nothing.
 use native.Mathlib.Omega.{arith}
-use Rattle.marks.proofs.Passing.{ending, no-track, as_many, all-tracks, few-links, one-track}
+use Rattle.marks.proofs.Passing.{ending, no-track, all-tracks, one-track}
 use Rattle.marks.proofs.mark.mark_tracks.Goals as goal
 
 pub loop-track-init : goal.loop-track-init
 loop-track-init c = no-track c.requires
-
-pub mark_chain-reached-requires : goal.mark_chain-reached-requires
-mark_chain-reached-requires c = rw c.chain-chain.ensures.indexed (as_many c.loop-track.invariant)
-
-pub overflow_add-reached : goal.overflow_add-reached
-overflow_add-reached c =
-    let many = rw (c.chain-chain.ensures.indexed, c.chain-chain.ensures.track) at c.mark_chain-reached.ensures.value in
-    let more = few-links c.loop-track.invariant (ending c.args.chains.now.indexed.ordered c.loop-track-test.true (c.args.chains.now.all_end _ c.loop-track-test.true)) c.args.chains.now.indexed.ordered.fits.few_records many in
-    omega (arith, more, c.loop-track.invariant.most, c.loop-track-test.true, c.args.chains.now.indexed.ordered.fits.few_tracks)
 
 pub loop-track-preserved : goal.loop-track-preserved
 loop-track-preserved c =

@@ -1,10 +1,8 @@
 -- `mark_chain` meets its contract. Assumes nothing.
 use native.Mathlib.Omega.{arith}
-use Rattle.marks.proofs.RisingChains.{begins, same_length, inside, room, goes_on, ends}
+use Rattle.std.proofs.Common.{rules}
+use Rattle.marks.proofs.RisingChains.{same_length, inside, room, goes_on, ends}
 use Rattle.marks.proofs.rising.mark_chain.Goals as goal
-
-pub loop-link-init : goal.loop-link-init
-loop-link-init c = begins _ _ _ _ c.first_link-link.ensures c.first_frame-frame.ensures
 
 pub behind-requires : goal.behind-requires
 behind-requires c = inside c.args.indexed.now.ordered c.requires.track_lt_count c.loop-link.invariant c.in_ok-at.ensures
@@ -31,4 +29,4 @@ pub loop-link-preserved : goal.loop-link-preserved
 loop-link-preserved c = goes_on c.args.indexed.now.ordered c.requires.track_lt_count c.loop-link.invariant c.in_ok-at.ensures c.loop-link-test.true (c.behind.ensures c.if-not-behind.false _) c.next_at-link.ensures c.frame_at-frame.ensures
 
 pub returns-clause-chain_marked : goal.returns-clause-chain_marked
-returns-clause-chain_marked c = ends c.args.indexed.now.ordered c.requires.track_lt_count c.loop-link.invariant c.in_default.ensures c.loop-link-test.false
+returns-clause-chain_marked c = ends c.args.indexed.now.ordered c.requires.track_lt_count c.loop-link.invariant (search rules) c.loop-link-test.false

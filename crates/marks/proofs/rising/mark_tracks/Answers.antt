@@ -5,16 +5,11 @@ use mathlib.Core.Option.{none}
 use Rattle.clip.proofs.First.{none_first}
 use Rattle.track_keys.specs.Tracks.{tracks_meet}
 use Rattle.track_keys.proofs.Meets.{track-more}
-use Rattle.marks.proofs.Passing.{ending, no-track, all-tracks, few-links, one-track}
+use Rattle.marks.proofs.Passing.{ending, no-track, all-tracks, one-track}
 use Rattle.marks.proofs.rising.mark_tracks.Goals as goal
 
 pub loop-track-init : goal.loop-track-init
 loop-track-init c = (no-track c.requires, none_first 0 _ (λ t lt. absurd (omega arith)))
-
-pub overflow_add-reached : goal.overflow_add-reached
-overflow_add-reached c =
-    let more = few-links c.loop-track.invariant.0 (ending c.args.indexed.now.ordered c.loop-track-test.true c.in_ok-reached.ensures.chain_marked.ends) c.args.indexed.now.ordered.fits.few_records c.in_ok-reached.ensures.chain_marked.length in
-    omega (arith, more, c.loop-track.invariant.0.most, c.loop-track-test.true, c.args.indexed.now.ordered.fits.few_tracks)
 
 pub loop-track-preserved : goal.loop-track-preserved
 loop-track-preserved c =

@@ -11,4 +11,4 @@ returns c =
     (behind _ _ _ _ _ _ _
     c.put_fields.ensures refl
     c.put_offsets.ensures) refl
-    c.put_span.ensures
+    c.put_at.ensures

@@ -12,7 +12,7 @@ returns c =
     behind _ _ _ _ _ _ _
     (behind _ _ _ _ _ _ _
     (behind _ _ _ _ _ _ _
-    c.put_base.ensures refl
+    c.put_at.ensures refl
     (same _ _ _ _ _ c.put.ensures (also _ _ _ _ c.float.ensures refl))) refl
-    c.put_vector.ensures) refl
-    c.put_vector-2.ensures
+    c.put_at-2.ensures) refl
+    c.put_at-3.ensures

@@ -8,7 +8,7 @@ use Rattle.track_keys.proofs.CloseFrames.{flags-start, above, under, flags-met, 
 use Rattle.track_keys.proofs.close.flagged_again.Goals as goal
 
 pub loop-i-init : goal.loop-i-init
-loop-i-init c = flags-start c.requires.spans c.first_frame-first.ensures c.clear.ensures c.meet.ensures
+loop-i-init c = flags-start c.requires.spans c.first_frame-first.ensures (c.fill.ensures.after (λ y same. same)) c.meet.ensures
 
 pub frame_at-frame-requires : goal.frame_at-frame-requires
 frame_at-frame-requires c =

@@ -3,12 +3,9 @@ use native.Mathlib.Omega.{arith}
 use Rattle.std.proofs.Common.{◌<◌, ◌∙◌, ap, sym, length}
 use Rattle.std.proofs.lemmas.List.{length_push}
 use Rattle.track_keys.proofs.Numbered.{turn, turns-end}
-use Rattle.track_keys.proofs.ChainFrames.{chain-frame, turn-below, frame-field, held_below, held-once, held-apart}
+use Rattle.track_keys.proofs.ChainFrames.{chain-frame, turn-below, held_below, held-once, held-apart}
 use Rattle.track_keys.proofs.Again.{again-starts, again-rise, again-long, again-first, again-met, again-more, again-end}
 use Rattle.track_keys.proofs.frames.met_again.Goals as goal
-
-pub invariant_of-frames : goal.invariant_of-frames
-invariant_of-frames c = record { within = frame-field _ _ c.args.chain.now.indexed.records.fits }
 
 pub repeats-requires : goal.repeats-requires
 repeats-requires c = record { all_below = held_below _ _ _ c.requires c.args.chain.now.ends; by_index = held-once _ _ _ c.requires c.args.chain.now.ends }

@@ -2,7 +2,7 @@
 use native.Mathlib.Omega.{arith}
 use lib.Seq.{length-take-le}
 use Rattle.std.proofs.Common.{sym}
-use Rattle.track_keys.proofs.ListedChain.{listed-is, listed-ends}
+use Rattle.track_keys.proofs.ListedChain.{listed-ends}
 use Rattle.track_keys.proofs.Meets.{chain-meets}
 use Rattle.track_keys.proofs.Readied.{refused-on, front-same, readied, readied-refused}
 use Rattle.track_keys.proofs.ready.make_ready.Goals as goal
@@ -12,9 +12,6 @@ returns-in_err-records-clause-readies c = refused-on _ _ _ _ _ _ c.from_residual
 
 pub invariant_of-chain : goal.invariant_of-chain
 invariant_of-chain c = record { ends = listed-ends _ _ _ _ _ (sym c.in_ok-records.ensures.result_after) c.args.indexed.now.ordered c.requires.track_lt_count }
-
-pub first_repeated_frame-again-requires : goal.first_repeated_frame-again-requires
-first_repeated_frame-again-requires c = listed-is _ _ _ _ _ (sym c.in_ok-records.ensures.result_after)
 
 pub returns-in_err-initial_key-clause-readies : goal.returns-in_err-initial_key-clause-readies
 returns-in_err-initial_key-clause-readies c = refused-on _ _ _ _ _ _ c.from_residual-in_err-initial_key.ensures (readied-refused c.args.indexed.now.ordered _ c.requires.track_lt_count _ _ _ (sym c.in_ok-records.ensures.result_after) (front-same _ _ _ c.first_repeated_frame-again.ensures.list_unchanged) _ c.in_err-initial_key.ensures)

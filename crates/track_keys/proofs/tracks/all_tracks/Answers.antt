@@ -2,7 +2,7 @@
 use native.Mathlib.Omega.{arith}
 use Rattle.std.proofs.Common.{◌∙◌}
 use Rattle.track_keys.proofs.Meets.{all_meet}
-use Rattle.track_keys.proofs.Asking.{Ready-track, tracking, asking, position-below, record-refused, asking-more, tracking-more}
+use Rattle.track_keys.proofs.Asking.{Ready-track, tracking, position-below, record-refused, asking-more, tracking-more}
 use Rattle.track_keys.proofs.tracks.all_tracks.Goals as goal
 
 pub tracks-init : goal.tracks-init
@@ -12,11 +12,6 @@ pub record_key-asked-requires-clause-p_lt_count : goal.record_key-asked-requires
 record_key-asked-requires-clause-p_lt_count c =
     let k : Ready-track c.args.indexed.now.records.section.now c.args.indexed.now.records.block c.args.indexed.now.slots.now c.tracks.track c.make_ready.new.list c.in-Ok.keys.records c.in-Ok.keys.again = record { ordered = c.args.indexed.now.ordered; is-track = c.tracks-test.true; room = omega (arith, c.requires, c.in-Ok.ensures.list_len_unchanged, c.tracks.invariant.same); keys = c.in-Ok.ensures.readies } in
     position-below k _ c.loop-i-test.true
-
-pub loop-i-init : goal.loop-i-init
-loop-i-init c =
-    let k : Ready-track c.args.indexed.now.records.section.now c.args.indexed.now.records.block c.args.indexed.now.slots.now c.tracks.track c.make_ready.new.list c.in-Ok.keys.records c.in-Ok.keys.again = record { ordered = c.args.indexed.now.ordered; is-track = c.tracks-test.true; room = omega (arith, c.requires, c.in-Ok.ensures.list_len_unchanged, c.tracks.invariant.same); keys = c.in-Ok.ensures.readies } in
-    asking k c.tracks.invariant.nothing
 
 pub loop-i-preserved : goal.loop-i-preserved
 loop-i-preserved c =

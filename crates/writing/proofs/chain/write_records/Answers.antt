@@ -3,7 +3,7 @@ use native.Mathlib.Omega.{arith}
 use mathlib.Core.Path.{ap, ◌∙◌}
 use Rattle.chains.specs.Positions.{positions_left}
 use Rattle.writing.proofs.OfRecord.{of-record}
-use Rattle.writing.proofs.Filling.{filled_none, filled-record, filled-room, filled-few, filled-length, filled_more, filled-many, filled-all}
+use Rattle.writing.proofs.Filling.{filled_none, filled-record, filled-room, filled-few, filled_more}
 use Rattle.writing.proofs.chain.write_records.Goals as goal
 
 pub loop-p-init : goal.loop-p-init
@@ -20,12 +20,3 @@ overflow_add-written c = omega (arith, filled-few c.args.chain.now.ends c.requir
 
 pub loop-p-preserved : goal.loop-p-preserved
 loop-p-preserved c = filled_more c.args.chain.now.ends c.requires c.loop-p.invariant _ _ c.in-Some.ensures.steps (rw (of-record _ c.args.chain.now.indexed.records.block _ c.key-record.ensures.section c.key-record.ensures.kind c.key-record.ensures.frame c.key-record.ensures.at) at c.write_key.ensures)
-
-pub shape_of-output : goal.shape_of-output
-shape_of-output c = filled-length c.args.chain.now.ends c.requires c.loop-p.invariant
-
-pub returns : goal.returns
-returns c = record {
-  records_value = filled-many c.args.chain.now.ends c.requires c.loop-p.invariant c.in-None.ensures.steps.0;
-  wrote = filled-all c.args.chain.now.ends c.requires c.loop-p.invariant c.in-None.ensures.steps.0;
-}

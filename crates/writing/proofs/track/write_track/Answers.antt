@@ -2,23 +2,14 @@
 use native.Mathlib.Omega.{arith}
 use Rattle.writing.proofs.OfRecord.{of-initial}
 use Rattle.writing.proofs.Measuring.{chain-most}
-use Rattle.writing.proofs.OneTrack.{initial-room, records-room, count_room, track-wrote}
+use Rattle.writing.proofs.OneTrack.{initial-room, track-wrote}
 use Rattle.writing.proofs.track.write_track.Goals as goal
-
-pub overflow_add-place : goal.overflow_add-place
-overflow_add-place c = let room = initial-room _ _ _ _ _ c.requires in omega (arith, room)
 
 pub write_key-next-requires : goal.write_key-next-requires
 write_key-next-requires c = rw (of-initial _ c.args.chain.now.indexed.records.block _ c.initial_key-initial.ensures.section c.initial_key-initial.ensures.kind c.initial_key-initial.ensures.frame c.initial_key-initial.ensures.at) (initial-room _ _ _ _ _ c.requires)
 
-pub write_records-written-requires : goal.write_records-written-requires
-write_records-written-requires c = records-room _ _ _ _ _ c.requires _ _ (rw (of-initial _ c.args.chain.now.indexed.records.block _ c.initial_key-initial.ensures.section c.initial_key-initial.ensures.kind c.initial_key-initial.ensures.frame c.initial_key-initial.ensures.at) at c.write_key-next.ensures)
-
 pub overflow_add-written : goal.overflow_add-written
 overflow_add-written c = omega (arith, chain-most c.args.chain.now.ends, c.write_records-written.ensures.records_value)
-
-pub write_count-requires : goal.write_count-requires
-write_count-requires c = count_room _ _ _ _ _ c.requires _ _ (rw (of-initial _ c.args.chain.now.indexed.records.block _ c.initial_key-initial.ensures.section c.initial_key-initial.ensures.kind c.initial_key-initial.ensures.frame c.initial_key-initial.ensures.at) at c.write_key-next.ensures) _ _ c.write_records-written.ensures.wrote
 
 pub returns : goal.returns
 returns c = track-wrote _ _ _ _ _ c.requires _ _ (rw (of-initial _ c.args.chain.now.indexed.records.block _ c.initial_key-initial.ensures.section c.initial_key-initial.ensures.kind c.initial_key-initial.ensures.frame c.initial_key-initial.ensures.at) at c.write_key-next.ensures) _ _ c.write_records-written.ensures.wrote _ _ c.write_records-written.ensures.records_value c.write_count.ensures

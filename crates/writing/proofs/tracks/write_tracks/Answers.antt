@@ -1,5 +1,5 @@
 -- `write_tracks` meets its contract: in each turn one track more is written. Assumes nothing.
-use Rattle.writing.proofs.Filling.{tracks-none, tracks-room, tracks-more, tracks-length}
+use Rattle.writing.proofs.Filling.{tracks-none, tracks-room, tracks-more}
 use Rattle.writing.proofs.tracks.write_tracks.Goals as goal
 
 pub loop-track-init : goal.loop-track-init
@@ -10,6 +10,3 @@ write_track-end-requires c = rw (c.chain.ensures.indexed, c.chain.ensures.track)
 
 pub loop-track-preserved : goal.loop-track-preserved
 loop-track-preserved c = tracks-more c.requires c.loop-track.invariant c.loop-track-test.true (rw (c.chain.ensures.indexed, c.chain.ensures.track) at c.write_track-end.ensures)
-
-pub shape_of-output : goal.shape_of-output
-shape_of-output c = tracks-length c.requires c.loop-track.invariant

@@ -4,9 +4,6 @@ use Rattle.clip.proofs.Indexed.{of-record}
 use Rattle.chains.proofs.ByIndex.{slots-below}
 use Rattle.chains.proofs.lookup.Indexed.lookup.Goals as goal
 
-pub index_at-requires : goal.index_at-requires
-index_at-requires c = slots-below _ _ c.args.self.now.ordered.fits _ c.args.self.now.ordered.positions _ c.if-place-self.true
-
 pub returns-then-index_at-link : goal.returns-then-index_at-link
 returns-then-index_at-link c =
     let below = slots-below _ _ c.args.self.now.ordered.fits _ c.args.self.now.ordered.positions _ c.if-place-self.true in

@@ -1,11 +1,8 @@
 -- `walk` meets its contract. Assumes nothing.
 use native.Mathlib.Omega.{arith}
 use Rattle.std.proofs.Common.{sym, ◌∙◌}
-use Rattle.chains.proofs.Going.{begins, misses, found_below, cycles, wrong, more_room, goes_on, ends}
+use Rattle.chains.proofs.Going.{misses, found_below, cycles, wrong, more_room, goes_on, ends}
 use Rattle.chains.proofs.lookup.Indexed.walk.Goals as goal
-
-pub loop-link-init : goal.loop-link-init
-loop-link-init c = begins _ _ _ _ c.first_link-link.ensures
 
 pub returns-in_default-clause-result_after : goal.returns-in_default-clause-result_after
 returns-in_default-clause-result_after c = misses c.args.self.now.ordered c.requires.track_lt_count c.loop-link.invariant c.loop-link-test.true c.in_default.ensures

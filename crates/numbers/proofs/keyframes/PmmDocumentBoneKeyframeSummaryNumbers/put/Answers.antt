@@ -11,7 +11,7 @@ returns c =
     behind _ _ _ _ _ _ _
     (behind _ _ _ _ _ _ _
     (behind _ _ _ _ _ _ _
-    c.put_base.ensures refl
-    c.put_pose.ensures) refl
+    c.put_at.ensures refl
+    c.put_at-2.ensures) refl
     c.put_bone_flags.ensures) refl
-    c.put_span.ensures
+    c.put_at-3.ensures

@@ -10,6 +10,6 @@ unfolding model model_fields base
 returns c =
     behind _ _ _ _ _ _ _
     (behind _ _ _ _ _ _ _
-    c.put_base.ensures refl
+    c.put_at.ensures refl
     c.put_model_fields.ensures) refl
-    c.put_span.ensures
+    c.put_at-2.ensures

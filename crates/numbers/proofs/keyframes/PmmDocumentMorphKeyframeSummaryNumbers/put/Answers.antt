@@ -10,6 +10,6 @@ unfolding morph morph_fields base
 returns c =
     behind _ _ _ _ _ _ _
     (behind _ _ _ _ _ _ _
-    c.put_base.ensures refl
+    c.put_at.ensures refl
     c.put_morph_fields.ensures) refl
-    c.put_span.ensures
+    c.put_at-2.ensures

@@ -12,8 +12,8 @@ returns c =
     (behind _ _ _ _ _ _ _
     (behind _ _ _ _ _ _ _
     (behind _ _ _ _ _ _ _
-    c.put_base.ensures refl
-    c.put_vector.ensures) refl
-    c.put_vector-2.ensures) refl
+    c.put_at.ensures refl
+    c.put_at-2.ensures) refl
+    c.put_at-3.ensures) refl
     c.put_fields.ensures) refl
-    c.put_span.ensures
+    c.put_at-4.ensures

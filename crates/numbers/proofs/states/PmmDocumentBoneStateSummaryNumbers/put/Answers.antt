@@ -9,5 +9,5 @@ pub returns : goal.returns
 unfolding bone_state pose
 returns c =
     behind _ _ _ _ _ _ _
-    c.put_pose.ensures refl
+    c.put_at.ensures refl
     c.put_bone_state_flags.ensures

@@ -1,10 +1,14 @@
--- `first_place` meets its contract: numbers before `low` are below the given one, and those from `high` on are not. Assumes nothing.
-use native.Mathlib.Omega.{arith}
-use Rattle.order.proofs.Halving.{bounds-up, bounds-down}
+-- `first_place` meets its contract. Assumes nothing.
+use Rattle.std.proofs.Common.{rules}
+use Rattle.std.proofs.lemmas.List.Sorted.{IsPartitionPoint-from_clause}
+use Rattle.order.specs.Field.{number_of}
+use Rattle.order.proofs.Halving.{under, parted, bounds}
 use Rattle.order.proofs.search.Rising.first_place.Goals as goal
 
-pub loop-low-preserved-then-number_at-number : goal.loop-low-preserved-then-number_at-number
-loop-low-preserved-then-number_at-number c = bounds-up _ _ _ _ _ c.loop-low.invariant c.args.self.now.numbers_rise _ _ (omega arith) (omega arith) c.number_at.ensures c.if-number_at-number.true
-
-pub loop-low-preserved : goal.loop-low-preserved
-loop-low-preserved c = bounds-down _ _ _ _ _ c.loop-low.invariant c.args.self.now.numbers_rise _ _ (omega arith) (omega arith) c.number_at.ensures c.if-number_at-number.false
+pub returns : goal.returns
+returns c =
+    let v = number_of c.args.self.now.slots.numbers.section.now c.args.self.now.slots.numbers.field in
+    let xs = c.args.self.now.slots.positions.now in
+    let low = c.args.self.now.slots.all_below in
+    bounds v _ c.args.number xs low c.args.self.now.numbers_rise _ c.partition_point.ensures.bound
+    (IsPartitionPoint-from_clause (under v _ c.args.number xs low) _ _ c.partition_point.ensures.partitioned (parted v _ c.args.number xs low c.args.self.now.numbers_rise) (λ a r q k. search rules))

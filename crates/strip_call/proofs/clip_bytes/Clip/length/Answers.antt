@@ -1,7 +1,6 @@
 -- `length` meets its contract. Assumes nothing.
 use native.Mathlib.Omega.{arith}
 use Rattle.writing.proofs.Measuring.{tracks-fit}
-use Rattle.strip_call.proofs.Pieces.{measured}
 use Rattle.strip_call.proofs.clip_bytes.Clip.length.Goals as goal
 
 pub overflow_add-result : goal.overflow_add-result
@@ -14,9 +13,3 @@ overflow_add-result-2 c =
     let bones = tracks-fit c.args.self.now.bones.indexed.ordered c.args.self.now.bones.all_end c.args.self.now.bones.indexed.records.block.initials.count (omega arith) in
     let morphs = tracks-fit c.args.self.now.morphs.indexed.ordered c.args.self.now.morphs.all_end c.args.self.now.morphs.indexed.records.block.initials.count (omega arith) in
     omega (arith, c.tracks_length.ensures, c.tracks_length-2.ensures, bones, morphs)
-
-pub returns : goal.returns
-returns c =
-    let all = measured c.args.self.now.bones.indexed.records.section.now c.args.self.now.bones.indexed.records.block c.args.self.now.morphs.indexed.records.block in
-    let morphs = rw c.args.self.now.one_section at c.tracks_length-2.ensures in
-    omega (arith, c.tracks_length.ensures, morphs, all)

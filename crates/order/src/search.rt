@@ -42,7 +42,8 @@ impl Rising<'_, '_> {
         })
     }
 
-    // By halves of its own: tried by `first_place`, it took a seventh more time where most numbers stand, since this ends where it meets one.
+    // By halves of its own, which ends where it meets the number: a search for the first place, by halves too, took a seventh more time where
+    // most numbers stand.
     fn find_between(&self, number: u32) -> Option<usize>
         ensures { Finds self.now.slots.numbers.section.now self.now.slots.numbers.field self.now.slots.positions.now number result }
     {

@@ -87,8 +87,9 @@ impl fmt::Display for StripRefusal {
                     Fault::Disconnected(records) => write!(f, "{records}"),
                 }
             }
-            StripRefusal::WorkTooShort(need) => write!(f, "17: {need}"),
-            StripRefusal::OutputTooShort(length) => write!(f, "18: {length}"),
+            StripRefusal::WorkTooShort(places) | StripRefusal::OutputTooShort(places) => {
+                write!(f, "{}: {places}", self.number())
+            }
         }
     }
 }

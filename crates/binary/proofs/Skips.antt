@@ -5,6 +5,7 @@ use mathlib.Core.Path.{◌≡◌, refl, sym, ap, ◌∙◌}
 use native.Mathlib.Nat.{le-div_iff_mul-le, div-lt_iff_lt-mul, div-add-mod', mul-zero}
 use native.Mathlib.Omega.{arith}
 use lib.ListN.{length}
+use Rattle.layout.specs.Refusals.{too_short}
 use Rattle.layout.specs.Walk.{Reader, fine, refused_at, times, items}
 use Rattle.layout.specs.Records.{size}
 use Rattle.layout.proofs.Steps.{short}
@@ -15,7 +16,7 @@ pub skip-none : {A : Type 0} (n : ℕ) (m : Reader A) (s : List ℕ) (at : ℕ) 
 unfolding times
 skip-none n m s at e = rw e
 
-pub skip-past : (n width : ℕ) (widths s : List ℕ) (at : ℕ) → (n ≡ 0 → ⊥) → length s < at → refused_at 1 at ≡ times n (items (width ∷ widths)) s at
+pub skip-past : (n width : ℕ) (widths s : List ℕ) (at : ℕ) → (n ≡ 0 → ⊥) → length s < at → refused_at too_short at ≡ times n (items (width ∷ widths)) s at
 unfolding times items
 skip-past zero width widths s at some past = absurd (some refl)
 skip-past (suc n) width widths s at some past = rw (short width _ s at (omega arith))
@@ -36,7 +37,7 @@ module _ (n k : ℕ) (widths s : List ℕ) (at : ℕ) (starts : at ≤ length s)
       let inside : at + n * k ≤ length s = omega arith in
       rw is (sym (times-whole n widths s at (rw is at inside)))
 
-  pub skip-short : (p : ℕ) → (length s - at) / k < n → (k ≡ 0 → ⊥) → p ≡ place widths ((length s - at) % k) → refused_at 1 (at + ((length s - at) / k * k + p)) ≡ times n (items widths) s at
+  pub skip-short : (p : ℕ) → (length s - at) / k < n → (k ≡ 0 → ⊥) → p ≡ place widths ((length s - at) % k) → refused_at too_short (at + ((length s - at) / k * k + p)) ≡ times n (items widths) s at
   skip-short p many some found =
       let lacks = (div-lt_iff_lt-mul {k = k} {x = length s - at} {y = n} (omega arith)).0 many in
       let outside : length s < at + n * k = omega arith in

@@ -1,16 +1,17 @@
 -- What each answer of the byte reader says in document 01's terms: a value and the offset behind it, or a refusal by its number
 -- and values.
 use Rattle.std.specs.Prelude.{ℕ, [], ◌∷◌, pos, Result, Ok, Err}
+use Rattle.layout.specs.Refusals.{too_short, negative_count, count_above_limit, too_long, absent}
 use Rattle.layout.specs.Walk
 use Rattle.layout.specs.Walk.{Walk, fine, refused, refusal, Answer, answered, declined}
 use Rattle.binary.specs.declared.refusal.Refusal.{Refusal}
 
 abbrev pub because : Refusal → Walk.Refusal
-because (Refusal.TooShort at) = refusal 1 (pos at ∷ [])
-because (Refusal.NegativeCount at) = refusal 2 (pos at ∷ [])
-because (Refusal.CountAboveLimit at) = refusal 20 (pos at ∷ [])
-because Refusal.TooLong = refusal 16 []
-because Refusal.Absent = refusal 19 []
+because (Refusal.TooShort at) = refusal too_short (pos at ∷ [])
+because (Refusal.NegativeCount at) = refusal negative_count (pos at ∷ [])
+because (Refusal.CountAboveLimit at) = refusal count_above_limit (pos at ∷ [])
+because Refusal.TooLong = refusal too_long []
+because Refusal.Absent = refusal absent []
 
 abbrev pub read : {A : Type 0} → Result (A × ℕ) Refusal → Walk A
 read (Ok (a, next)) = fine a next

@@ -15,11 +15,14 @@ use Rattle.clip.proofs.Indexed.{of-record}
 use Rattle.clip.proofs.Counting.{distinct-length}
 use Rattle.clip.proofs.Chained.{Chained, all-below, no-repeats}
 use Rattle.clip.proofs.Follow.{is-chain}
-use Rattle.chains.specs.Block.{kind_of, links}
+use Rattle.blocks.specs.Kind.{kind_of}
+use Rattle.blocks.specs.Block.{links}
 use Rattle.chains.specs.Chain.{chain_at, link_to, Ends, Along}
 use Rattle.chains.specs.Lookup.{Ordered}
+use Rattle.chains.specs.Step.{Reaches}
+use Rattle.chains.specs.declared.step.Step.{Step}
 use Rattle.chains.specs.Walk.{AllEnd}
-use Rattle.chains.specs.declared.block.Block.{Block}
+use Rattle.blocks.specs.declared.block.Block.{Block}
 
 module _ {B : Type 0} (r : Records B) where
   -- What the link to a record of a chain is.
@@ -89,25 +92,23 @@ module _ {s : List ℕ} {b : Block} {slots : List ℕ} {track : ℕ} (x : Ends s
     bears : record_of (links s b) link ≡ some (get_or (chain_at s b track) i 0)
     bears = let at = led-here (along-inside on) in of-record (links s b) x.ordered.indexed link (get_or (chain_at s b track) i 0) at.below at.index
 
+    -- There is a step to go.
     pub along-absent : {P : Type 0} → none ≡ record_of (links s b) link → P
     along-absent absent =
         let out : none ≡ some (get_or (chain_at s b track) i 0) = absent ∙ bears in
         absurd (let z : ◌≡◌ {A = ℕ} 0 1 = cc in omega arith)
 
-    module _ {p : ℕ} (is : some p ≡ record_of (links s b) link) where
-      pub along_at : p ≡ get_or (chain_at s b track) i 0
+    module _ {step : Step} (to : Reaches s b link step) where
+      along_at : step.position ≡ get_or (chain_at s b track) i 0
       along_at =
-          let same : some p ≡ some (get_or (chain_at s b track) i 0) = is ∙ bears in
+          let same : some step.position ≡ some (get_or (chain_at s b track) i 0) = to.bears ∙ bears in
           cc
 
-      pub along_below : p < b.records.count
-      along_below = subst (λ (q : ℕ). q < b.records.count) (sym along_at) (led-here (along-inside on)).below
-
-      pub along-more : {next : ℕ} → next ≡ ((links s b).at p).next → Along s b track (i + 1) next
-      along-more to = record {
+      pub along-more : Along s b track (i + 1) step.next
+      along-more = record {
         most = omega (arith, along-inside on);
-        linked = to ∙ ap (λ q. ((links s b).at q).next) along_at ∙ ap (link_to (links s b) ((links s b).initial track).next (chain_at s b track)) (sym (add-one i));
+        linked = to.next ∙ ap (λ q. ((links s b).at q).next) along_at ∙ ap (link_to (links s b) ((links s b).initial track).next (chain_at s b track)) (sym (add-one i));
       }
 
-      pub along-first : drop i (chain_at s b track) ≡ p ∷ drop (i + 1) (chain_at s b track)
+      pub along-first : drop i (chain_at s b track) ≡ step.position ∷ drop (i + 1) (chain_at s b track)
       along-first = rw (add-one, along_at) (drop-cons (chain_at s b track) i 0 (along-inside on))

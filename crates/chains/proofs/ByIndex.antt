@@ -24,8 +24,8 @@ use Rattle.clip.specs.Section.{additional_at}
 use Rattle.clip.proofs.First.{none_first, none-given}
 use Rattle.clip.proofs.Indexed.{of-record}
 use Rattle.strip.specs.Work.{inserted, by_index}
-use Rattle.chains.specs.Block.{Fits, links}
-use Rattle.chains.specs.declared.block.Block.{Block}
+use Rattle.blocks.specs.Block.{Fits, links}
+use Rattle.blocks.specs.declared.block.Block.{Block}
 
 abbrev one : Bool → ℕ
 one b = cond b 1 0

@@ -1,6 +1,6 @@
-pub mod Places
 pub mod Going
 pub mod ByIndex
+pub mod Stepping
 pub mod Scanned
 pub mod RisingIndices
 pub mod AlongChain

@@ -10,10 +10,11 @@ use Rattle.order.specs.Sorted.{Sorted}
 use Rattle.order.proofs.Counted.{up_to-length, up_to-at}
 use Rattle.clip.specs.Scan.{scan}
 use Rattle.clip.specs.Section.{additional_at}
-use Rattle.chains.specs.Block.{Fits, kind_of, links}
+use Rattle.blocks.specs.Kind.{kind_of}
+use Rattle.blocks.specs.Block.{Fits, links}
 use Rattle.chains.specs.Lookup.{Ordered}
 use Rattle.chains.specs.Scan.{InRange, IndicesRise}
-use Rattle.chains.specs.declared.block.Block.{Block}
+use Rattle.blocks.specs.declared.block.Block.{Block}
 use Rattle.chains.proofs.Scanned.{scan-passes, scan-orders}
 
 module _ (s : List ℕ) (b : Block) where

@@ -5,33 +5,29 @@ use mathlib.Core.Bool.{Bool, true, false, cond}
 use mathlib.Core.List.{List, [], ◌∷◌}
 use mathlib.Core.Logic.{◌⊎◌, inl, inr}
 use mathlib.Core.Option.{none, some}
-use mathlib.Core.Path.{◌≡◌, refl, sym, ◌∙◌, subst}
+use mathlib.Core.Path.{◌≡◌, refl, sym, ◌∙◌}
 use borrow.Author.Tests.{le-leb, lt-leb, lt-ltb, le-ltb, ltb-true, ltb-false, eq-eqb, ne_eqb}
 use lib.Dec.{eqb, ltb}
-use lib.IntN.{pos}
-use Rattle.order.specs.Close.{Repeated}
-use Rattle.order.specs.declared.field.Field.{Field}
+use lib.IntN.{ℤ, pos}
 use Rattle.order.specs.Field.{number_of}
 use Rattle.order.specs.Repeat.{FirstRepeat, up_to}
 use Rattle.order.specs.Sorted.{Sorted, times}
 use Rattle.order.proofs.Counted.{up_to-below, up_to-once, up_to-has, up_to-none}
 use Rattle.order.proofs.Laws.{sorted-strictly}
+use Rattle.layout.specs.Numbers.{signed}
 use Rattle.layout.specs.Walk.{Refusal}
 use Rattle.clip.specs.First.{first}
-use Rattle.clip.specs.Fields.{refusal_of, signed}
+use Rattle.clip.specs.Fields.{refusal_of}
 use Rattle.clip.specs.Scan.{index_refusal, scan}
 use Rattle.clip.specs.Section.{additional_at}
 use Rattle.clip.proofs.First.{none_or, none-given, none_first, false-any, true-any, first-met}
 use Rattle.clip.proofs.Indexed.{scanned}
-use Rattle.chains.specs.Block.{Fits, kind_of, links}
+use Rattle.blocks.specs.Kind.{kind_of}
+use Rattle.blocks.specs.Block.{Fits, links}
 use Rattle.chains.specs.Lookup.{Ordered}
 use Rattle.chains.specs.Scan.{InRange}
-use Rattle.chains.specs.declared.block.Block.{Block}
+use Rattle.blocks.specs.declared.block.Block.{Block}
 use Rattle.chains.proofs.ByIndex.{index-field, is-by_index}
-
--- What the search for repeats answers, where the slots have a place for each record.
-pub repeated-in : {s : List ℕ} {f : Field} {n k m : ℕ} {slots : List ℕ} → n ≡ k → Repeated s f n slots m → Repeated s f k slots m
-repeated-in {s} {f} {n} {k} {m} {slots} same told = subst (λ (l : ℕ). Repeated s f l slots m) same told
 
 module _ (s : List ℕ) (b : Block) where
   module _ (n : ℕ) (ranged : InRange s b n) (m : ℕ) (repeat : FirstRepeat (number_of s b.records) b.records.count m) where
@@ -47,28 +43,31 @@ module _ (s : List ℕ) (b : Block) where
     all-fine : (k : ℕ) → k ≤ n → k ≤ m → first k (index_refusal (kind_of b.kind) (links s b)) ≡ none
     all-fine k kn km = none_first k (index_refusal (kind_of b.kind) (links s b)) (λ p lt. fine p (omega arith) (omega arith))
 
-    pub scan-repeated : m < n → (bits : ℕ) → bits ≡ ((links s b).at m).index → some (refusal_of (kind_of b.kind) 5 (signed bits ∷ [])) ≡ scan (kind_of b.kind) (links s b)
+    pub scan-repeated : m < n → {bits : ℕ} → bits ≡ ((links s b).at m).index → {z : ℤ} → z ≡ signed bits → some (refusal_of (kind_of b.kind) 5 (z ∷ [])) ≡ scan (kind_of b.kind) (links s b)
     unfolding scan index_refusal number_of additional_at
-    scan-repeated lt bits is =
+    scan-repeated lt {bits} is reads =
         let low = ranged.positive m lt in
         let inside = ranged.most in
         let a = repeat.again (omega (arith, inside)) in
         let seen = true-any (λ q. eqb ((links s b).at q).index ((links s b).at m).index) m a.0 a.1 (eq-eqb ((links s b).at a.0).index ((links s b).at m).index a.2) in
-        sym (first-met b.records.count (index_refusal (kind_of b.kind) (links s b)) m (refusal_of (kind_of b.kind) 5 (signed bits ∷ [])) (omega (arith, inside)) (all-fine m (omega arith) (omega arith))
-        (rw (lt-leb (2 ^ 31) ((links s b).at m).index (omega (arith, low)), le-ltb ((links s b).at m).index b.initials.count (ranged.above m lt), seen, sym is)))
+        rw reads
+        (sym (first-met b.records.count (index_refusal (kind_of b.kind) (links s b)) m (refusal_of (kind_of b.kind) 5 (signed bits ∷ [])) (omega (arith, inside)) (all-fine m (omega arith) (omega arith))
+        (rw (lt-leb (2 ^ 31) ((links s b).at m).index (omega (arith, low)), le-ltb ((links s b).at m).index b.initials.count (ranged.above m lt), seen, sym is))))
 
-    module _ (first_out : n ≤ m) (more : n < b.records.count) (bits : ℕ) (is : bits ≡ ((links s b).at n).index) where
-      pub scan-negative : 2147483648 ≤ bits → some (refusal_of (kind_of b.kind) 3 (signed bits ∷ [])) ≡ scan (kind_of b.kind) (links s b)
+    module _ (first_out : n ≤ m) (more : n < b.records.count) {bits : ℕ} (is : bits ≡ ((links s b).at n).index) {z : ℤ} (reads : z ≡ signed bits) where
+      pub scan-negative : 2147483648 ≤ bits → some (refusal_of (kind_of b.kind) 3 (z ∷ [])) ≡ scan (kind_of b.kind) (links s b)
       unfolding scan index_refusal
       scan-negative high =
-          sym (first-met b.records.count (index_refusal (kind_of b.kind) (links s b)) n (refusal_of (kind_of b.kind) 3 (signed bits ∷ [])) more (all-fine n (omega arith) first_out)
-          (rw (sym is, le-leb (2 ^ 31) bits high)))
+          rw reads
+          (sym (first-met b.records.count (index_refusal (kind_of b.kind) (links s b)) n (refusal_of (kind_of b.kind) 3 (signed bits ∷ [])) more (all-fine n (omega arith) first_out)
+          (rw (sym is, le-leb (2 ^ 31) bits high))))
 
-      pub scan-low : bits < 2147483648 → some (refusal_of (kind_of b.kind) 4 (signed bits ∷ pos b.initials.count ∷ [])) ≡ scan (kind_of b.kind) (links s b)
+      pub scan-low : bits < 2147483648 → some (refusal_of (kind_of b.kind) 4 (z ∷ pos b.initials.count ∷ [])) ≡ scan (kind_of b.kind) (links s b)
       unfolding scan index_refusal
       scan-low low =
-          sym (first-met b.records.count (index_refusal (kind_of b.kind) (links s b)) n (refusal_of (kind_of b.kind) 4 (signed bits ∷ pos b.initials.count ∷ [])) more (all-fine n (omega arith) first_out)
-          (go (ranged.next more)))
+          rw reads
+          (sym (first-met b.records.count (index_refusal (kind_of b.kind) (links s b)) n (refusal_of (kind_of b.kind) 4 (signed bits ∷ pos b.initials.count ∷ [])) more (all-fine n (omega arith) first_out)
+          (go (ranged.next more))))
         where
           go : (2147483648 ≤ ((links s b).at n).index) ⊎ (((links s b).at n).index < b.initials.count) → index_refusal (kind_of b.kind) (links s b) n ≡ some (refusal_of (kind_of b.kind) 4 (signed bits ∷ pos b.initials.count ∷ []))
           go (inl high) = absurd (omega (arith, high, is, low))

@@ -4,9 +4,10 @@ use Rattle.layout.specs.Walk.{answered}
 use Rattle.clip.specs.Fields.{Records}
 use Rattle.clip.specs.Chain.{chain}
 use Rattle.clip.specs.Build.{chain_of}
-use Rattle.chains.specs.Block.{kind_of, links}
+use Rattle.blocks.specs.Kind.{kind_of}
+use Rattle.blocks.specs.Block.{links}
 use Rattle.chains.specs.Lookup.{Ordered}
-use Rattle.chains.specs.declared.block.Block.{Block}
+use Rattle.blocks.specs.declared.block.Block.{Block}
 
 abbrev pub chain_at : List ℕ → Block → ℕ → List ℕ
 chain_at s b track = chain_of (kind_of b.kind) (links s b) track

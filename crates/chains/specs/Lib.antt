@@ -1,6 +1,5 @@
-pub mod Block
 pub mod Lookup
-pub mod Fault
+pub mod Step
 pub mod Walk
 pub mod Scan
 pub mod Chain

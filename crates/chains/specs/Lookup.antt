@@ -3,8 +3,8 @@ use Rattle.std.specs.Prelude.{ℕ, List, ◌≡◌, Option, Some, None}
 use Rattle.std.proofs.Math.Option as maybe
 use Rattle.clip.specs.Scan.{Indexed}
 use Rattle.strip.specs.Work.{by_index}
-use Rattle.chains.specs.Block.{Fits, links}
-use Rattle.chains.specs.declared.block.Block.{Block}
+use Rattle.blocks.specs.Block.{Fits, links}
+use Rattle.blocks.specs.declared.block.Block.{Block}
 use Rattle.chains.specs.declared.standing.Standing.{Standing}
 
 -- The index scan has passed, and the slots hold the positions by rising index.

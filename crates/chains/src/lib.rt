@@ -2,13 +2,11 @@
 // serves bones and morphs, whose additional records begin with the same four numbers.
 #![tactic(auto)]
 
-pub mod block;
 pub mod chain;
-pub mod fault;
-pub mod key;
 pub mod lookup;
 pub mod near;
 pub mod positions;
 pub mod scan;
 pub mod standing;
+pub mod step;
 pub mod walk;

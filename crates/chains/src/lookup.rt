@@ -1,12 +1,12 @@
 // The record that bears an index, found in the first work slice.
 ghost use Rattle.std.specs.Prelude.{◌≡◌};
 ghost use Rattle.clip.specs.Scan.{record_of};
-ghost use Rattle.chains.specs.Block.{links};
+ghost use Rattle.blocks.specs.Block.{links};
 ghost use Rattle.chains.specs.Lookup.{Ordered, found_read};
 
-use crate::block::Records;
 use crate::near::Near;
 use crate::standing::Standing;
+use blocks::block::Records;
 use order::field::Numbers;
 use order::search::Rising;
 use order::slots::Slots;

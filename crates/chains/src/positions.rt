@@ -1,5 +1,6 @@
 // The positions of a chain's records, in chain order.
 ghost use Rattle.std.specs.Prelude.{◌≡◌};
+ghost use Rattle.blocks.specs.Track.{number_of_track};
 ghost use Rattle.chains.specs.Chain.{Along};
 
 use crate::chain::Chain;
@@ -13,7 +14,7 @@ pub struct Positions<'a> {
     link: u32,
     near: Near,
     taken: usize,
-    ghost along: { Along chain.indexed.records.section.now chain.indexed.records.block chain.track taken link },
+    ghost along: { Along chain.indexed.records.section.now chain.indexed.records.block (number_of_track chain.track) taken link },
 }
 
 impl<'a> Iterator for Positions<'a> {
@@ -26,15 +27,19 @@ impl<'a> Iterator for Positions<'a> {
 
     ghost remaining = { item_count positions_left };
 
+    // Inlined, and so is a step: a chain may be one record long.
+    #[inline(always)]
     fn next(&mut self) -> Option<usize> {
         if self.link == 0 {
             return None;
         }
-        let at = self.chain.indexed.lookup(self.link, self.near)?;
-        self.near = self.near.after(at.place);
-        self.link = self.chain.indexed.records.next_at(at.position);
+        let Some(step) = self.chain.indexed.step(self.link, self.near) else {
+            unreachable!()
+        };
+        self.near = step.near;
+        self.link = step.next;
         self.taken += 1;
-        Some(at.position)
+        Some(step.position)
     }
 }
 

@@ -2,15 +2,19 @@
 ghost use Rattle.std.specs.Prelude.{true, ◌≡◌, length};
 ghost use Rattle.std.proofs.Math.Option.{none};
 ghost use Rattle.clip.specs.Scan.{scan};
-ghost use Rattle.chains.specs.Block.{kind_of, links};
+ghost use Rattle.blocks.specs.Kind.{kind_of};
+ghost use Rattle.blocks.specs.Block.{links};
 ghost use Rattle.chains.specs.Lookup.{Ordered};
-ghost use Rattle.chains.specs.Fault.{met_read};
+ghost use Rattle.blocks.specs.Fault.{met_read};
 ghost use Rattle.chains.specs.Scan.{InRange, IndicesRise};
 
-use crate::block::Records;
-use crate::fault::Fault;
+use blocks::block::Records;
+use blocks::fault::Fault;
 use order::field::Numbers;
-use order::repeats;
+use order::{repeats, slots};
+
+// The least 32 bits that a negative i32 has.
+const LEAST_NEGATIVE: usize = 2147483648;
 
 // Whether indices rise from the kind's count on, as they do in the files that MMD writes. The last one is the largest.
 fn rising(records: &Records) -> bool
@@ -24,7 +28,7 @@ fn rising(records: &Records) -> bool
         }
         least = index + 1;
     }
-    least <= 2147483648
+    least <= LEAST_NEGATIVE
 }
 
 // How many records in front have an index that is not negative and not below the kind's count.
@@ -47,10 +51,10 @@ fn in_range(records: &Records) -> usize
 // and in walk, since these functions write them.
 fn scan_any(records: &Records, slots: &mut [u16]) -> Result<(), Fault>
     requires { length slots.old ≡ records.now.block.records.count }
-    ensures result_value { met_read (kind_of records.now.block.kind) records.now.block.initials.count result ≡ scan (kind_of records.now.block.kind) (links records.now.section.now records.now.block) }
+    ensures result_value { met_read result ≡ scan (kind_of records.now.block.kind) (links records.now.section.now records.now.block) }
     ensures ordered { scan (kind_of records.now.block.kind) (links records.now.section.now records.now.block) ≡ none → Ordered records.now.section.now records.now.block slots.new }
-    ensures slots_len_unchanged { length slots.new ≡ length slots.old }
 {
+    let kind = records.block.kind;
     let passed = in_range(records);
     let indices = Numbers {
         section: records.section,
@@ -58,14 +62,14 @@ fn scan_any(records: &Records, slots: &mut [u16]) -> Result<(), Fault>
     };
     let repeated = repeats::first_repeat(&indices, slots);
     if repeated < passed {
-        return Err(Fault::RepeatedIndex(records.index_at(repeated)));
+        return Err(Fault::RepeatedIndex(kind, records.index_at(repeated).cast_signed()));
     }
     if passed < records.block.records.count {
-        let index = records.index_at(passed);
-        if index.cast_signed() < 0 {
-            return Err(Fault::NegativeIndex(index));
+        let index = records.index_at(passed).cast_signed();
+        if index < 0 {
+            return Err(Fault::NegativeIndex(kind, index));
         }
-        return Err(Fault::IndexBelowCount(index));
+        return Err(Fault::IndexBelowCount(kind, index, records.block.initials.count));
     }
     Ok(())
 }
@@ -73,12 +77,11 @@ fn scan_any(records: &Records, slots: &mut [u16]) -> Result<(), Fault>
 // Indices that rise cost one pass, and no positions need to be sorted.
 pub fn index_scan(records: &Records, slots: &mut [u16]) -> Result<(), Fault>
     requires { length slots.old ≡ records.now.block.records.count }
-    ensures result_value { met_read (kind_of records.now.block.kind) records.now.block.initials.count result ≡ scan (kind_of records.now.block.kind) (links records.now.section.now records.now.block) }
+    ensures result_value { met_read result ≡ scan (kind_of records.now.block.kind) (links records.now.section.now records.now.block) }
     ensures ordered { scan (kind_of records.now.block.kind) (links records.now.section.now records.now.block) ≡ none → Ordered records.now.section.now records.now.block slots.new }
-    ensures slots_len_unchanged { length slots.new ≡ length slots.old }
 {
     if rising(records) {
-        repeats::fill(slots);
+        slots::put_in_file_order(slots);
         return Ok(());
     }
     scan_any(records, slots)

@@ -9,9 +9,11 @@ use mathlib.Core.Path.{◌≡◌, refl, ap}
 use lib.Dec.{eqb}
 use lib.IntN.{pos}
 use lib.ListN.{length}
+use Rattle.layout.specs.Refusals.{missing_link, cycle, wrong_previous}
+use Rattle.layout.specs.Numbers.{signed}
 use Rattle.layout.specs.Walk.{Answer, answered}
 use Rattle.clip.specs.First.{given, ◌or◌, first, any, member}
-use Rattle.clip.specs.Fields.{Initial, Additional, Records, Kind, refusal_of, signed}
+use Rattle.clip.specs.Fields.{Initial, Additional, Records, Kind, refusal_of}
 use Rattle.clip.specs.Scan.{index_refusal, scan, record_of}
 use Rattle.clip.specs.Chain.{unless, found, with, follow, chain}
 use Rattle.clip.specs.Keys.{Key, KeyTest}
@@ -49,13 +51,13 @@ module _ {A B : Type 0} (f : A → B) where
       where
         on : Answer (List ℕ) → ℕ → Answer (List ℕ)
         on rest p =
-            unless (given (member p visited) (refusal_of kind 7 (pos t ∷ signed link ∷ []))
-            or given (not (eqb (r.at p).previous expected)) (refusal_of kind 8 (pos t ∷ signed link ∷ signed (r.at p).previous ∷ signed expected ∷ [])))
+            unless (given (member p visited) (refusal_of kind cycle (pos t ∷ signed link ∷ []))
+            or given (not (eqb (r.at p).previous expected)) (refusal_of kind wrong_previous (pos t ∷ signed link ∷ signed (r.at p).previous ∷ signed expected ∷ [])))
             (with p rest)
 
         start : (at : Option ℕ) → ((p : ℕ) → follow kind (records_body r) t n (p ∷ visited) link (r.at p).next ≡ follow kind r t n (p ∷ visited) link (r.at p).next)
-            → cond (eqb link 0) (answered []) (found at (refusal_of kind 6 (pos t ∷ signed link ∷ [])) (λ p. on (follow kind (records_body r) t n (p ∷ visited) link (r.at p).next) p))
-            ≡ cond (eqb link 0) (answered []) (found at (refusal_of kind 6 (pos t ∷ signed link ∷ [])) (λ p. on (follow kind r t n (p ∷ visited) link (r.at p).next) p))
+            → cond (eqb link 0) (answered []) (found at (refusal_of kind missing_link (pos t ∷ signed link ∷ [])) (λ p. on (follow kind (records_body r) t n (p ∷ visited) link (r.at p).next) p))
+            ≡ cond (eqb link 0) (answered []) (found at (refusal_of kind missing_link (pos t ∷ signed link ∷ [])) (λ p. on (follow kind r t n (p ∷ visited) link (r.at p).next) p))
         start none same = refl
         start (some p) same = rw (same p)
 

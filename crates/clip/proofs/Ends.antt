@@ -8,9 +8,11 @@ use mathlib.Core.Path.{◌≡◌, refl}
 use lib.Dec.{eqb}
 use lib.IntN.{pos}
 use lib.ListN.{length}
+use Rattle.layout.specs.Refusals.{missing_link, cycle, wrong_previous}
+use Rattle.layout.specs.Numbers.{signed}
 use Rattle.layout.specs.Walk.{Refusal, Answer, answered}
 use Rattle.clip.specs.First.{given, ◌or◌, member}
-use Rattle.clip.specs.Fields.{Records, Kind, refusal_of, signed}
+use Rattle.clip.specs.Fields.{Records, Kind, refusal_of}
 use Rattle.clip.specs.Scan.{record_of}
 use Rattle.clip.specs.Chain.{unless, found, with, follow, chain}
 use Rattle.clip.proofs.Counting.{Distinct, AllBelow, distinct-length}
@@ -25,13 +27,13 @@ module _ {B : Type 0} (kind : Kind) (r : Records B) (track : ℕ) where
       start (record_of r link) refl (λ p new below. same_end n m (p ∷ visited) link (r.at p).next (new, d) (below, b) (omega arith) (omega arith))
     where
       r6 : Refusal
-      r6 = refusal_of kind 6 (pos track ∷ signed link ∷ [])
+      r6 = refusal_of kind missing_link (pos track ∷ signed link ∷ [])
 
       r7 : Refusal
-      r7 = refusal_of kind 7 (pos track ∷ signed link ∷ [])
+      r7 = refusal_of kind cycle (pos track ∷ signed link ∷ [])
 
       r8 : ℕ → Refusal
-      r8 p = refusal_of kind 8 (pos track ∷ signed link ∷ signed (r.at p).previous ∷ signed expected ∷ [])
+      r8 p = refusal_of kind wrong_previous (pos track ∷ signed link ∷ signed (r.at p).previous ∷ signed expected ∷ [])
 
       onward : ℕ → ℕ → Answer (List ℕ)
       onward k p =

@@ -8,11 +8,13 @@ use mathlib.Core.List.{List, [], ◌∷◌}
 use mathlib.Core.Path.{◌≡◌, refl, sym, ◌∙◌, subst}
 use lib.Dec.{leb, ltb}
 use lib.ListN.{length}
+use Rattle.layout.specs.Refusals.{too_short, negative_count, too_long, count_above_limit}
+use Rattle.layout.specs.Numbers.{negative}
 use Rattle.layout.specs.Walk.{fine, refused, refusal, refused_at, item, block, items, times, count, string, fixed_string, bool, u32, u8, unlimited}
 use Rattle.layout.specs.Records.{size, initial, additional, bone, morph, model, bone_state, morph_state, constraint_state, parent_state}
 use Rattle.layout.proofs.Inversion.{Reads, came, counted, same-value, item-fits}
 use Rattle.layout.proofs.Steps.{read_as}
-use Rattle.section.specs.Limits.{Limits}
+use Rattle.section.specs.declared.limits.Limits.{Limits}
 use Rattle.section.specs.Model.{opening, names, entries, counts, view, scroll, front, keyframes, keyframe_blocks, states, ending, model_parts, model_section}
 use Rattle.section.specs.declared.opening.Opening.{Opening}
 use Rattle.section.specs.declared.names.Names.{Names}
@@ -31,7 +33,7 @@ item-ends : {A : Type 0} (width : ℕ) (value : List ℕ → ℕ → A) (s : Lis
 unfolding item
 item-ends {A} width value s at a next e = go (leb (at + width) (length s)) e
   where
-    go : (b : Bool) → cond b (fine (value s at) (at + width)) (refused_at 1 at) ≡ fine a next → next ≡ at + width
+    go : (b : Bool) → cond b (fine (value s at) (at + width)) (refused_at too_short at) ≡ fine a next → next ≡ at + width
     go true e = sym (same_next e)
     go false e = absurd (let z : ◌≡◌ {A = ℕ} 0 1 = cc in omega arith)
 
@@ -58,9 +60,9 @@ unfolding count
 count-ends limit s at n next e =
     let back = came (u32 s at) _ n next e in
     let first = item-ends 4 _ s at _ back.at back.first in
-    go (leb 2147483648 back.value) (ltb limit back.value) back.value back.at first back.rest
+    go (negative back.value) (ltb limit back.value) back.value back.at first back.rest
   where
-    go : (high above : Bool) (m after : ℕ) → after ≡ at + 4 → cond high (refused_at 2 at) (cond above (refused_at 20 at) (fine m after)) ≡ fine n next → next ≡ at + 4
+    go : (high above : Bool) (m after : ℕ) → after ≡ at + 4 → cond high (refused_at negative_count at) (cond above (refused_at count_above_limit at) (fine m after)) ≡ fine n next → next ≡ at + 4
     go true above m after first e = absurd (let z : ◌≡◌ {A = ℕ} 0 1 = cc in omega arith)
     go false true m after first e = absurd (let z : ◌≡◌ {A = ℕ} 0 1 = cc in omega arith)
     go false false m after first e = sym (same_next e) ∙ first
@@ -273,6 +275,6 @@ blocks limits s start m end e = go (ltb limits.length (length s)) e
           whole = whole;
         })
 
-    go : (b : Bool) → cond b (refused (refusal 16 [])) (model_parts limits s start) ≡ fine m end → Blocks limits s m
+    go : (b : Bool) → cond b (refused (refusal too_long [])) (model_parts limits s start) ≡ fine m end → Blocks limits s m
     go true e = absurd (let z : ◌≡◌ {A = ℕ} 0 1 = cc in omega arith)
     go false e = parts e

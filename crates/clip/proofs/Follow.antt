@@ -9,9 +9,11 @@ use borrow.Author.Tests.{eqb-true, eqb-false, eq-eqb, ne_eqb}
 use lib.Dec.{eqb}
 use lib.IntN.{pos}
 use lib.ListN.{length}
+use Rattle.layout.specs.Refusals.{missing_link, cycle, wrong_previous}
+use Rattle.layout.specs.Numbers.{signed}
 use Rattle.layout.specs.Walk.{Refusal, Answer, answered, declined}
 use Rattle.clip.specs.First.{given, ◌or◌, member}
-use Rattle.clip.specs.Fields.{Records, Kind, refusal_of, signed}
+use Rattle.clip.specs.Fields.{Records, Kind, refusal_of}
 use Rattle.clip.specs.Scan.{record_of, Indexed}
 use Rattle.clip.specs.Chain.{unless, found, with, follow, chain}
 use Rattle.clip.proofs.First.{contrary}
@@ -52,13 +54,13 @@ module _ {B : Type 0} (kind : Kind) (r : Records B) (track : ℕ) where
   followed (suc n) visited expected link ps e = start (eqb link 0) (record_of r link) refl refl (followed n) e
     where
       r6 : Refusal
-      r6 = refusal_of kind 6 (pos track ∷ signed link ∷ [])
+      r6 = refusal_of kind missing_link (pos track ∷ signed link ∷ [])
 
       r7 : Refusal
-      r7 = refusal_of kind 7 (pos track ∷ signed link ∷ [])
+      r7 = refusal_of kind cycle (pos track ∷ signed link ∷ [])
 
       r8 : ℕ → Refusal
-      r8 p = refusal_of kind 8 (pos track ∷ signed link ∷ signed (r.at p).previous ∷ signed expected ∷ [])
+      r8 p = refusal_of kind wrong_previous (pos track ∷ signed link ∷ signed (r.at p).previous ∷ signed expected ∷ [])
 
       Before : Type 0
       Before = (visited : List ℕ) (expected link : ℕ) (ps : List ℕ) → follow kind r track n visited expected link ≡ answered ps → Chained r expected link ps

@@ -1,6 +1,6 @@
 -- The index scan passes exactly where the indices are in range and distinct; then the record of an index is the one that bears it.
 -- Assumes nothing.
-use Prim.Native.Nat.{ℕ, ◌≤◌, ◌<◌, ◌^◌}
+use Prim.Native.Nat.{ℕ, ◌≤◌, ◌<◌}
 use native.Mathlib.Decide.{ℕ_discrete, dec_lt}
 use native.Mathlib.Omega.{arith}
 use mathlib.Core.List.{[], ◌∷◌}
@@ -9,14 +9,16 @@ use mathlib.Core.Path.{◌≡◌, sym, ◌∙◌, subst}
 use borrow.Author.Tests.{leb-false, lt-leb, ltb-false, le-ltb, eqb-true, eqb-false, eq-eqb, ne_eqb}
 use lib.Dec.{eqb, ltb}
 use lib.IntN.{pos}
+use Rattle.layout.specs.Refusals.{negative_index, index_below_count, repeated_index}
+use Rattle.layout.specs.Numbers.{signed, least_negative, negative}
 use Rattle.clip.specs.First.{given, ◌or◌, any}
-use Rattle.clip.specs.Fields.{Records, Kind, refusal_of, signed, negative}
+use Rattle.clip.specs.Fields.{Records, Kind, refusal_of}
 use Rattle.clip.specs.Scan.{index_refusal, scan, record_of, Indexed}
 use Rattle.clip.proofs.First.{or-none, none_or, given-none, none-given, given-some, first-none, none_first, first_some, first-only, any_false, false-any}
 
 module _ {B : Type 0} (kind : Kind) (r : Records B) where
   record Passed (p : ℕ) : Type 0 where
-    pub positive : (r.at p).index < 2147483648
+    pub positive : (r.at p).index < least_negative
     pub above : r.tracks ≤ (r.at p).index
     pub new : (q : ℕ) → q < p → (r.at q).index ≡ (r.at p).index → ⊥
 
@@ -24,13 +26,13 @@ module _ {B : Type 0} (kind : Kind) (r : Records B) where
   unfolding index_refusal
   passed p e =
       let index = (r.at p).index in
-      let r3 = refusal_of kind 3 (signed index ∷ []) in
-      let r4 = refusal_of kind 4 (signed index ∷ pos r.tracks ∷ []) in
-      let r5 = refusal_of kind 5 (signed index ∷ []) in
+      let r3 = refusal_of kind negative_index (signed index ∷ []) in
+      let r4 = refusal_of kind index_below_count (signed index ∷ pos r.tracks ∷ []) in
+      let r5 = refusal_of kind repeated_index (signed index ∷ []) in
       let seen = any p (λ q. eqb (r.at q).index index) in
       let parts = or-none (given (negative index) r3) (given (ltb index r.tracks) r4 or given seen r5) e in
       let rest = or-none (given (ltb index r.tracks) r4) (given seen r5) parts.1 in
-      let low = leb-false (2 ^ 31) index (given-none (negative index) r3 parts.0) in
+      let low = leb-false least_negative index (given-none (negative index) r3 parts.0) in
       record {
         positive = omega (arith, low);
         above = ltb-false index r.tracks (given-none (ltb index r.tracks) r4 rest.0);
@@ -57,7 +59,7 @@ module _ {B : Type 0} (kind : Kind) (r : Records B) where
       none_first r.additional (index_refusal kind r) (λ p lt.
       let index = (r.at p).index in
       let low = x.positive p lt in
-      none_or _ _ (none-given _ _ (lt-leb (2 ^ 31) index (omega (arith, low))))
+      none_or _ _ (none-given _ _ (lt-leb least_negative index (omega (arith, low))))
       (none_or _ _ (none-given _ _ (le-ltb index r.tracks (x.above p lt)))
       (none-given _ _ (false-any (λ q. eqb (r.at q).index index) p (λ q less. ne_eqb (r.at q).index index (λ same. let e = x.apart q p (omega (arith, less, lt)) lt same in omega (arith, e, less)))))))
 

@@ -1,6 +1,6 @@
 -- Demand 3 for the records of one kind: the second's build is accepted exactly when its unpaired records are idle, and then each track has
 -- the same keys. Assumes nothing.
-use Prim.Native.Nat.{ℕ, ◌<◌, ◌^◌}
+use Prim.Native.Nat.{ℕ, ◌<◌}
 use native.Mathlib.Decide.{ℕ_discrete}
 use native.Mathlib.Omega.{arith}
 use mathlib.Core.Bool.{Bool, true, false}
@@ -10,6 +10,7 @@ use mathlib.Core.Logic.{◌↔◌}
 use mathlib.Core.Path.{◌≡◌, refl, sym, ap, ◌∙◌, subst}
 use borrow.Author.Tests.{leb-false, lt-leb, eqb-true, eqb-false, eq-eqb}
 use lib.Dec.{eqb}
+use Rattle.layout.specs.Numbers.{least_negative}
 use Rattle.clip.specs.First.{any, member}
 use Rattle.clip.specs.Fields.{Records, Kind}
 use Rattle.clip.specs.Keys.{KeyTest}
@@ -91,7 +92,7 @@ module _ {B : Type 0} (r₁ r₂ : Records B) (m : Matched r₁ r₂) where
         record {
           previous = links.0;
           next = links.1;
-          positive = lt-leb (2 ^ 31) (r₂.at q).index (omega (arith, low));
+          positive = lt-leb least_negative (r₂.at q).index (omega (arith, low));
           above = s₂.indexed.above q lt;
           alone = λ p lp other same. other (s₂.indexed.apart p q lp lt same);
         }
@@ -113,7 +114,7 @@ module _ {B : Type 0} (r₁ r₂ : Records B) (m : Matched r₁ r₂) where
         record {
           positive = λ q lt. split q
               (λ from. let low = s₁.indexed.positive from.source from.below in let e = index_of q from in omega (arith, low, e))
-              (λ unpaired. let low = leb-false (2 ^ 31) (r₂.at q).index (idle q lt unpaired).positive in omega (arith, low));
+              (λ unpaired. let low = leb-false least_negative (r₂.at q).index (idle q lt unpaired).positive in omega (arith, low));
           above = λ q lt. split q
               (λ from. let high = s₁.indexed.above from.source from.below in let e = index_of q from in let n = m.tracks in omega (arith, high, e, n))
               (λ unpaired. (idle q lt unpaired).above);

@@ -51,9 +51,6 @@ module _ {B : Type 0} (kind : Kind) (test : KeyTest B) (r : Records B) (s : Soun
   pub chain_length : (t : ℕ) → t < r.tracks → length (chain_of kind r t) ≤ r.additional
   chain_length t lt = distinct-length r.additional (chain_of kind r t) (chain-distinct t lt) (chain-below t lt)
 
-  pub one-chain : (t u p : ℕ) → t < r.tracks → u < r.tracks → member p (chain_of kind r t) ≡ true → member p (chain_of kind r u) ≡ true → t ≡ u
-  one-chain = in_one kind r s.indexed ended
-
   pub reached-and-loose : links_followed kind r + loose kind r ≡ r.additional
   reached-and-loose =
       let all = all-counted kind r s.indexed ended in

@@ -8,10 +8,12 @@ use mathlib.Core.Path.{◌≡◌, refl, ap, ◌∙◌}
 use borrow.Author.Tests.{eq-eqb}
 use lib.Dec.{eqb, ltb}
 use lib.IntN.{ℤ, pos}
+use Rattle.layout.specs.Refusals.{missing_link, cycle, wrong_previous}
+use Rattle.layout.specs.Numbers.{signed, negative}
 use Rattle.layout.specs.Walk.{Refusal, refusal, Answer, answered, declined}
 use Rattle.section.specs.declared.model.Model.{Model}
 use Rattle.clip.specs.First.{given, ◌or◌, first, any, member}
-use Rattle.clip.specs.Fields.{BoneBody, Records, Kind, bone, morph, refusal_of, signed, negative}
+use Rattle.clip.specs.Fields.{BoneBody, Records, Kind, bone, morph, refusal_of}
 use Rattle.clip.specs.Scan.{index_refusal, scan, Indexed}
 use Rattle.clip.specs.Chain.{unless, found, with, follow, chain}
 use Rattle.clip.specs.Keys.{Key, KeyTest, key_test, body_refusal, finite, translation_fails, orientation_fails, pose_asked, posed, weight_asked, float_at, bone_test, morph_test}
@@ -80,13 +82,13 @@ module _ {B : Type 0} (kind : Kind) (r : Records B) where
   follow-not-nine t zero visited expected link = λ e. omega arith
   follow-not-nine t (suc n) visited expected link = start (eqb link 0) (record_of r link) (λ p. follow-not-nine t n (p ∷ visited) link (r.at p).next)
     where
-      on : (p : ℕ) (seen same : Bool) (rest : Answer (List ℕ)) → NineFree rest → NineFree (unless (given seen (refusal_of kind 7 (pos t ∷ signed link ∷ [])) or given (not same) (refusal_of kind 8 (pos t ∷ signed link ∷ signed (r.at p).previous ∷ signed expected ∷ []))) (with p rest))
+      on : (p : ℕ) (seen same : Bool) (rest : Answer (List ℕ)) → NineFree rest → NineFree (unless (given seen (refusal_of kind cycle (pos t ∷ signed link ∷ [])) or given (not same) (refusal_of kind wrong_previous (pos t ∷ signed link ∷ signed (r.at p).previous ∷ signed expected ∷ []))) (with p rest))
       on p true same rest free = λ e. omega arith
       on p false false rest free = λ e. omega arith
       on p false true (answered ps) free = tt
       on p false true (declined why) free = free
 
-      start : (ends : Bool) (at : Option ℕ) → ((p : ℕ) → NineFree (follow kind r t n (p ∷ visited) link (r.at p).next)) → NineFree (cond ends (answered []) (found at (refusal_of kind 6 (pos t ∷ signed link ∷ [])) (λ p. let rest = follow kind r t n (p ∷ visited) link (r.at p).next in unless (given (member p visited) (refusal_of kind 7 (pos t ∷ signed link ∷ [])) or given (not (eqb (r.at p).previous expected)) (refusal_of kind 8 (pos t ∷ signed link ∷ signed (r.at p).previous ∷ signed expected ∷ []))) (with p rest))))
+      start : (ends : Bool) (at : Option ℕ) → ((p : ℕ) → NineFree (follow kind r t n (p ∷ visited) link (r.at p).next)) → NineFree (cond ends (answered []) (found at (refusal_of kind missing_link (pos t ∷ signed link ∷ [])) (λ p. let rest = follow kind r t n (p ∷ visited) link (r.at p).next in unless (given (member p visited) (refusal_of kind cycle (pos t ∷ signed link ∷ [])) or given (not (eqb (r.at p).previous expected)) (refusal_of kind wrong_previous (pos t ∷ signed link ∷ signed (r.at p).previous ∷ signed expected ∷ []))) (with p rest))))
       start true at before = tt
       start false none before = λ e. omega arith
       start false (some p) before = on p (member p visited) (eqb (r.at p).previous expected) (follow kind r t n (p ∷ visited) link (r.at p).next) (before p)

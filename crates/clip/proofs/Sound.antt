@@ -9,9 +9,11 @@ use mathlib.Core.Path.{◌≡◌, refl}
 use borrow.Author.Tests.{ltb-false, le-ltb, eqb-true, eq-eqb}
 use lib.Dec.{eqb, ltb}
 use lib.IntN.{pos}
+use Rattle.layout.specs.Refusals.{shared_record, disconnected_records}
+use Rattle.layout.specs.Numbers.{signed}
 use Rattle.layout.specs.Walk.{Refusal, Answer, answered, declined}
 use Rattle.clip.specs.First.{given, ◌or◌, first, member}
-use Rattle.clip.specs.Fields.{Records, Kind, refusal_of, signed}
+use Rattle.clip.specs.Fields.{Records, Kind, refusal_of}
 use Rattle.clip.specs.Scan.{scan, Indexed}
 use Rattle.clip.specs.Chain.{chain}
 use Rattle.clip.specs.Keys.{Key, KeyTest}
@@ -48,7 +50,7 @@ module _ {B : Type 0} (kind : Kind) (test : KeyTest B) (r : Records B) where
   unfolding records_refusal
   records-pass t before [] e = tt
   records-pass t before (p ∷ ps) e =
-      let rest = (or-none (given (reached_before kind r t p) (refusal_of kind 9 (signed (r.at p).index ∷ []))) (test t before (record_key (r.at p)) or records_refusal kind test r t ((r.at p).frame ∷ before) ps) e).1 in
+      let rest = (or-none (given (reached_before kind r t p) (refusal_of kind shared_record (signed (r.at p).index ∷ []))) (test t before (record_key (r.at p)) or records_refusal kind test r t ((r.at p).frame ∷ before) ps) e).1 in
       let parts = or-none (test t before (record_key (r.at p))) (records_refusal kind test r t ((r.at p).frame ∷ before) ps) rest in
       (parts.0, records-pass t ((r.at p).frame ∷ before) ps parts.1)
 
@@ -114,7 +116,7 @@ module _ {B : Type 0} (kind : Kind) (test : KeyTest B) (r : Records B) where
   unfolding build_refusal
   sound e =
       let n = disconnected kind r in
-      let r15 = refusal_of kind 15 (pos n ∷ []) in
+      let r15 = refusal_of kind disconnected_records (pos n ∷ []) in
       let front = or-none (scan kind r) (first r.tracks (track_refusal kind test r) or given (ltb 0 n) r15) e in
       let back = or-none (first r.tracks (track_refusal kind test r)) (given (ltb 0 n) r15) front.1 in
       let few = ltb-false 0 n (given-none (ltb 0 n) r15 back.1) in

@@ -10,17 +10,17 @@ use mathlib.Core.Path.{◌≡◌, refl, sym, ap, ◌∙◌, subst}
 use borrow.Author.Tests.{eq-eqb, ne_eqb}
 use lib.Dec.{eqb}
 use lib.IntN.{pos}
-use lib.ListN.{length, get_or, length-append}
-use lib.ListN.{get_or-append}
-use lib.Seq.{get_or-append_seam}
+use lib.ListN.{length}
+use Rattle.layout.specs.Refusals.{missing_link, cycle, wrong_previous}
+use Rattle.layout.specs.Numbers.{signed}
 use Rattle.layout.specs.Walk.{Answer, answered, declined}
 use Rattle.clip.specs.First.{member}
-use Rattle.clip.specs.Fields.{Records, Kind, refusal_of, signed}
+use Rattle.clip.specs.Fields.{Records, Kind, refusal_of}
 use Rattle.clip.specs.Scan.{record_of, Indexed}
 use Rattle.clip.specs.Chain.{with, follow, chain}
 use Rattle.clip.proofs.Counting.{Distinct, AllBelow, distinct-length}
 use Rattle.clip.proofs.Indexed.{of-record}
-use Rattle.clip.proofs.Chained.{member-place, one_place, path-distinct, Linked, path, closed}
+use Rattle.clip.proofs.Chained.{path-distinct, Linked, path, closed}
 use Rattle.clip.proofs.Follow.{Fresh, fresh-nil, fresh-cons, chain-is}
 
 abbrev with_all : List ℕ → Answer (List ℕ) → Answer (List ℕ)
@@ -64,33 +64,18 @@ module _ {B : Type 0} (r : Records B) where
     pub few : (ps : List ℕ) (e' l' : ℕ) → Linked r t l ps e' l' → length ps ≤ r.additional
     few ps e' l' c = distinct-length r.additional ps (path-distinct r x t is-track ps (path r ps t l e' l' c)) (linked-below ps t l e' l' c)
 
-    pub new-record : (ps : List ℕ) (e' l' p : ℕ) → Linked r t l ps e' l' → (l' ≡ 0 → ⊥) → p < r.additional → (r.at p).index ≡ l' → (r.at p).previous ≡ e' → member p ps ≡ false
-    new-record ps e' l' p c on below is back = go (member p ps) refl
-      where
-        go : (b : Bool) → member p ps ≡ b → b ≡ false
-        go false e = refl
-        go true e =
-            let at = member-place p ps e in
-            let longer = ps ++ p ∷ [] in
-            let whole = path r longer t l l' (r.at p).next (one_more ps t l e' l' p c on below is back) in
-            let many = length-append ps (p ∷ []) in
-            let inner : get_or longer at.place 0 ≡ p = get_or-append ps (p ∷ []) 0 at.place at.below ∙ at.is in
-            let outer : get_or longer (length ps) 0 ≡ p = get_or-append_seam ps p [] 0 in
-            let below = at.below in
-            absurd (let same = (one_place r x t t is-track is-track longer longer whole whole at.place (length ps) (omega (arith, below, many)) (omega (arith, many)) (inner ∙ sym outer)).1 in omega (arith, same, below))
-
 -- One step of the walk, by what it finds.
 module _ {B : Type 0} (kind : Kind) (r : Records B) (t : ℕ) (n : ℕ) (visited : List ℕ) (e l : ℕ) (on : l ≡ 0 → ⊥) where
-  stops-missing : record_of r l ≡ none → follow kind r t (suc n) visited e l ≡ declined (refusal_of kind 6 (pos t ∷ signed l ∷ []))
+  stops-missing : record_of r l ≡ none → follow kind r t (suc n) visited e l ≡ declined (refusal_of kind missing_link (pos t ∷ signed l ∷ []))
   unfolding follow
   stops-missing is = rw (ne_eqb l 0 on, is)
 
   module _ (p : ℕ) (is : record_of r l ≡ some p) where
-    stops-cycle : member p visited ≡ true → follow kind r t (suc n) visited e l ≡ declined (refusal_of kind 7 (pos t ∷ signed l ∷ []))
+    stops-cycle : member p visited ≡ true → follow kind r t (suc n) visited e l ≡ declined (refusal_of kind cycle (pos t ∷ signed l ∷ []))
     unfolding follow
     stops-cycle seen = rw (ne_eqb l 0 on, is, seen)
 
-    stops-wrong : member p visited ≡ false → ((r.at p).previous ≡ e → ⊥) → follow kind r t (suc n) visited e l ≡ declined (refusal_of kind 8 (pos t ∷ signed l ∷ signed (r.at p).previous ∷ signed e ∷ []))
+    stops-wrong : member p visited ≡ false → ((r.at p).previous ≡ e → ⊥) → follow kind r t (suc n) visited e l ≡ declined (refusal_of kind wrong_previous (pos t ∷ signed l ∷ signed (r.at p).previous ∷ signed e ∷ []))
     unfolding follow
     stops-wrong new other = rw (ne_eqb l 0 on, is, new, ne_eqb (r.at p).previous e other)
 
@@ -122,11 +107,11 @@ module _ {B : Type 0} (kind : Kind) (r : Records B) (x : Indexed r) (t : ℕ) wh
     pub walk_ends : l ≡ 0 → chain kind r t ≡ answered ps
     walk_ends zero-link = chain-is kind r t x is-track ps (closed r ps t (r.initial t).next e (subst (λ k. Linked r t (r.initial t).next ps e k) zero-link c))
 
-    pub walk-misses : (l ≡ 0 → ⊥) → record_of r l ≡ none → chain kind r t ≡ declined (refusal_of kind 6 (pos t ∷ signed l ∷ []))
-    walk-misses on is = so_far ∙ ap (with_all ps) (stops-missing kind r t left (reverse_aux ps []) e l on is) ∙ all-declined ps (refusal_of kind 6 (pos t ∷ signed l ∷ []))
+    pub walk-misses : (l ≡ 0 → ⊥) → record_of r l ≡ none → chain kind r t ≡ declined (refusal_of kind missing_link (pos t ∷ signed l ∷ []))
+    walk-misses on is = so_far ∙ ap (with_all ps) (stops-missing kind r t left (reverse_aux ps []) e l on is) ∙ all-declined ps (refusal_of kind missing_link (pos t ∷ signed l ∷ []))
 
-    pub walk-cycles : (l ≡ 0 → ⊥) → (p : ℕ) → record_of r l ≡ some p → member p ps ≡ true → chain kind r t ≡ declined (refusal_of kind 7 (pos t ∷ signed l ∷ []))
-    walk-cycles on p is seen = so_far ∙ ap (with_all ps) (stops-cycle kind r t left (reverse_aux ps []) e l on p is (visited-are p ps ∙ seen)) ∙ all-declined ps (refusal_of kind 7 (pos t ∷ signed l ∷ []))
+    pub walk-cycles : (l ≡ 0 → ⊥) → (p : ℕ) → record_of r l ≡ some p → member p ps ≡ true → chain kind r t ≡ declined (refusal_of kind cycle (pos t ∷ signed l ∷ []))
+    walk-cycles on p is seen = so_far ∙ ap (with_all ps) (stops-cycle kind r t left (reverse_aux ps []) e l on p is (visited-are p ps ∙ seen)) ∙ all-declined ps (refusal_of kind cycle (pos t ∷ signed l ∷ []))
 
-    pub walk-wrong : (l ≡ 0 → ⊥) → (p : ℕ) → record_of r l ≡ some p → member p ps ≡ false → ((r.at p).previous ≡ e → ⊥) → chain kind r t ≡ declined (refusal_of kind 8 (pos t ∷ signed l ∷ signed (r.at p).previous ∷ signed e ∷ []))
-    walk-wrong on p is new other = so_far ∙ ap (with_all ps) (stops-wrong kind r t left (reverse_aux ps []) e l on p is (visited-are p ps ∙ new) other) ∙ all-declined ps (refusal_of kind 8 (pos t ∷ signed l ∷ signed (r.at p).previous ∷ signed e ∷ []))
+    pub walk-wrong : (l ≡ 0 → ⊥) → (p : ℕ) → record_of r l ≡ some p → member p ps ≡ false → ((r.at p).previous ≡ e → ⊥) → chain kind r t ≡ declined (refusal_of kind wrong_previous (pos t ∷ signed l ∷ signed (r.at p).previous ∷ signed e ∷ []))
+    walk-wrong on p is new other = so_far ∙ ap (with_all ps) (stops-wrong kind r t left (reverse_aux ps []) e l on p is (visited-are p ps ∙ new) other) ∙ all-declined ps (refusal_of kind wrong_previous (pos t ∷ signed l ∷ signed (r.at p).previous ∷ signed e ∷ []))

@@ -1,9 +1,11 @@
 -- Document 01, "Build order", for one kind. Definitions only.
 use Rattle.std.specs.Prelude.{ℕ, Bool, not, ◌&&◌, List, [], ◌∷◌, map, eqb, ltb, pos, length}
 use Rattle.std.proofs.Math.Option.{Option, none, some}
+use Rattle.layout.specs.Refusals.{shared_record, disconnected_records}
+use Rattle.layout.specs.Numbers.{signed}
 use Rattle.layout.specs.Walk.{Refusal, Answer, answered, declined}
 use Rattle.clip.specs.First.{given, ◌or◌, first, any, number, member, total}
-use Rattle.clip.specs.Fields.{Initial, Additional, Records, Kind, refusal_of, signed}
+use Rattle.clip.specs.Fields.{Initial, Additional, Records, Kind, refusal_of}
 use Rattle.clip.specs.Scan.{scan}
 use Rattle.clip.specs.Chain.{chain}
 use Rattle.clip.specs.Keys.{Key, KeyTest}
@@ -57,7 +59,7 @@ module _ {B : Type 0} (kind : Kind) (test : KeyTest B) (r : Records B) where
   unfoldable pub records_refusal : ℕ → List ℕ → List ℕ → Option Refusal
   records_refusal track before [] = none
   records_refusal track before (p ∷ ps) =
-      given (reached_before kind r track p) (refusal_of kind 9 (signed (r.at p).index ∷ []))
+      given (reached_before kind r track p) (refusal_of kind shared_record (signed (r.at p).index ∷ []))
       or test track before (record_key (r.at p))
       or records_refusal track ((r.at p).frame ∷ before) ps
 
@@ -73,4 +75,4 @@ module _ {B : Type 0} (kind : Kind) (test : KeyTest B) (r : Records B) where
   build_refusal =
       scan kind r
       or first r.tracks track_refusal
-      or given (ltb 0 (disconnected kind r)) (refusal_of kind 15 (pos (disconnected kind r) ∷ []))
+      or given (ltb 0 (disconnected kind r)) (refusal_of kind disconnected_records (pos (disconnected kind r) ∷ []))

@@ -1,9 +1,11 @@
 -- Document 01, module 4: the chain of a track, as positions of additional records in chain order. Definitions only.
 use Rattle.std.specs.Prelude.{ℕ, zero, suc, cond, not, List, [], ◌∷◌, eqb, pos}
 use Rattle.std.proofs.Math.Option.{Option, none, some}
+use Rattle.layout.specs.Refusals.{missing_link, cycle, wrong_previous}
+use Rattle.layout.specs.Numbers.{signed}
 use Rattle.layout.specs.Walk.{Refusal, Answer, answered, declined}
 use Rattle.clip.specs.First.{given, ◌or◌, member}
-use Rattle.clip.specs.Fields.{Records, Kind, refusal_of, signed}
+use Rattle.clip.specs.Fields.{Records, Kind, refusal_of}
 use Rattle.clip.specs.Scan.{record_of}
 
 module _ {A : Type 0} where
@@ -26,13 +28,13 @@ module _ {B : Type 0} (kind : Kind) (r : Records B) (track : ℕ) where
   -- 7 cycle (track, link); 8 wrong previous link (track, link, found, expected). A chain has no more links than there are records,
   -- so `left`, which is one more at the beginning, is never used up (proofs, Ends).
   unfoldable pub follow : ℕ → List ℕ → ℕ → ℕ → Answer (List ℕ)
-  follow zero visited expected link = declined (refusal_of kind 7 (pos track ∷ signed link ∷ []))
+  follow zero visited expected link = declined (refusal_of kind cycle (pos track ∷ signed link ∷ []))
   follow (suc left) visited expected link =
-      cond (eqb link 0) (answered []) (found (record_of r link) (refusal_of kind 6 (pos track ∷ signed link ∷ [])) (λ p.
+      cond (eqb link 0) (answered []) (found (record_of r link) (refusal_of kind missing_link (pos track ∷ signed link ∷ [])) (λ p.
       let rest = follow left (p ∷ visited) link (r.at p).next in
-      unless (given (member p visited) (refusal_of kind 7 (pos track ∷ signed link ∷ []))
+      unless (given (member p visited) (refusal_of kind cycle (pos track ∷ signed link ∷ []))
       or given (not (eqb (r.at p).previous expected))
-      (refusal_of kind 8 (pos track ∷ signed link ∷ signed (r.at p).previous ∷ signed expected ∷ [])))
+      (refusal_of kind wrong_previous (pos track ∷ signed link ∷ signed (r.at p).previous ∷ signed expected ∷ [])))
       (with p rest)))
 
   -- "Start at the initial record's next link, expecting its track number as previous link."

@@ -1,7 +1,5 @@
 -- Document 01, "Build fields": what a record gives to a clip. A number is the 32 bits that are read. Definitions only.
-use Rattle.std.specs.Prelude.{ℕ, ◌^◌, Bool, List, ◌∷◌, leb, ℤ, pos}
-use Rattle.std.specs.Int.{w32}
-use Rattle.std.proofs.Common.{to_z}
+use Rattle.std.specs.Prelude.{ℕ, List, ◌∷◌, ℤ, pos}
 use Rattle.layout.specs.Walk.{Refusal, refusal}
 
 -- "Bone: frame, next link, 16 interpolation bytes, pose bits. Morph: frame, next link, weight bits." The body is what comes after
@@ -44,10 +42,3 @@ kind_value morph = pos 1
 
 abbrev pub refusal_of : Kind → ℕ → List ℤ → Refusal
 refusal_of kind number values = refusal number (kind_value kind ∷ values)
-
--- The i32 of 32 bits, and whether it is negative.
-abbrev pub signed : ℕ → ℤ
-signed bits = to_z w32 bits
-
-abbrev pub negative : ℕ → Bool
-negative bits = leb (2 ^ 31) bits

@@ -3,11 +3,12 @@ use Rattle.std.specs.Prelude.{ℕ, Bool, true, false, not, ◌&&◌, ◌||◌, L
 use Rattle.std.proofs.Math.Option.{Option, none, some}
 use Rattle.std.specs.Float.{nan, inf, fin, binary32}
 use Rattle.std.specs.Float.Ieee.{add, mul, le}
+use Rattle.layout.specs.Refusals.{negative_frame, repeated_frame, invalid_translation, invalid_orientation, invalid_weight}
+use Rattle.layout.specs.Numbers.{signed, negative, float}
 use Rattle.layout.specs.Walk.{Refusal, refusal, u32_at}
 use Rattle.records.specs.declared.pose.Pose.{Pose}
-use Rattle.records.specs.Pose.{float}
 use Rattle.clip.specs.First.{given, ◌or◌, member}
-use Rattle.clip.specs.Fields.{BoneBody, Kind, bone, morph, refusal_of, signed, negative}
+use Rattle.clip.specs.Fields.{BoneBody, Kind, bone, morph, refusal_of}
 
 pub record Key (B : Type 0) : Type 0 where
   pub frame : ℕ
@@ -25,8 +26,8 @@ body_refusal (some number) track frame = some (refusal number (pos track ∷ sig
 -- "10 negative frame (track, frame). 11 frame repeated in a track (track, frame)." Then what is asked of the body.
 unfoldable pub key_test : {B : Type 0} → Kind → (B → Option ℕ) → KeyTest B
 key_test kind asked track before key =
-    given (negative key.frame) (refusal_of kind 10 (pos track ∷ signed key.frame ∷ []))
-    or given (member key.frame before) (refusal_of kind 11 (pos track ∷ signed key.frame ∷ []))
+    given (negative key.frame) (refusal_of kind negative_frame (pos track ∷ signed key.frame ∷ []))
+    or given (member key.frame before) (refusal_of kind repeated_frame (pos track ∷ signed key.frame ∷ []))
     or body_refusal (asked key.body) track key.frame
 
 abbrev pub finite : Float → Bool
@@ -55,7 +56,7 @@ orientation_fails p =
     || le (squared_length p.orientation_x p.orientation_y p.orientation_z p.orientation_w) limit
 
 unfoldable pub pose_asked : Pose → Option ℕ
-pose_asked p = given (translation_fails p) 12 or given (orientation_fails p) 13
+pose_asked p = given (translation_fails p) invalid_translation or given (orientation_fails p) invalid_orientation
 
 -- The float of the 4 bytes from a place on.
 abbrev pub float_at : List ℕ → ℕ → Float
@@ -75,7 +76,7 @@ posed b =
 
 -- "14 weight not finite"
 unfoldable pub weight_asked : Float → Option ℕ
-weight_asked weight = given (not (finite weight)) 14
+weight_asked weight = given (not (finite weight)) invalid_weight
 
 abbrev pub bone_test : KeyTest BoneBody
 bone_test = key_test bone (λ b. pose_asked (posed b))

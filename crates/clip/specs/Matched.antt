@@ -1,6 +1,7 @@
 -- Demand 3's hypotheses about the records of one kind in two sections. Definitions only.
 use Rattle.std.specs.Prelude.{ℕ, ◌≤◌, ◌<◌, false, ◌≡◌}
-use Rattle.clip.specs.Fields.{Records, negative}
+use Rattle.layout.specs.Numbers.{negative}
+use Rattle.clip.specs.Fields.{Records}
 
 module _ {B : Type 0} (r₁ r₂ : Records B) where
   -- "equal bone and morph counts"; "Let their initial bone and morph records have the same build fields, track by track"; "let each of

@@ -1,5 +1,5 @@
 -- The build fields of a model section's records, by document 01's record table, and the build of a section. Definitions only.
-use Rattle.std.specs.Prelude.{ℕ, zero, suc, ◌+◌, ◌*◌, List, [], ◌∷◌, ◌++◌, get_or}
+use Rattle.std.specs.Prelude.{ℕ, ◌+◌, ◌*◌, List}
 use Rattle.std.proofs.Math.Option.{Option}
 use Rattle.layout.specs.Walk.{Refusal, u32_at, bytes_at}
 use Rattle.layout.specs.Records.{size}

@@ -6,10 +6,11 @@ use mathlib.Core.Bool.{Bool, true, false}
 use mathlib.Core.List.{List}
 use mathlib.Core.Path.{◌≡◌, refl, sym, ap, ◌∙◌}
 use Rattle.std.specs.Prelude.{Option, Some, None}
+use Rattle.layout.specs.Numbers.{float}
 use Rattle.layout.specs.Walk.{Reader, ◌>>=◌, ◌>>◌, give, here, fine, u32_at, u32, bool, block, bytes_at}
 use Rattle.layout.proofs.Inversion.{came, Was, item-was}
 use Rattle.records.specs.Base.{index_bits, base_bits}
-use Rattle.records.specs.Pose.{pose_bits, pose_of, float}
+use Rattle.records.specs.Pose.{pose_bits, pose_of}
 use Rattle.records.specs.Keyframes.{bone_bits, morph_bits}
 use Rattle.records.specs.declared.base.BaseBits.{BaseBits}
 use Rattle.records.specs.declared.pose.PoseBits.{PoseBits}

@@ -7,11 +7,14 @@ use mathlib.Core.List.{List, [], ◌∷◌, ◌++◌}
 use mathlib.Core.Path.{◌≡◌, refl, sym, ap, ◌∙◌, subst}
 use lib.ListN.{length, get_or, length-append, get_or-append}
 use lib.Seq.{get_or_at}
-use Rattle.layout.specs.Walk.{u32_at, bytes_at}
-use Rattle.records.specs.Pose.{float, pose_of}
+use Rattle.layout.specs.Numbers.{float}
+use Rattle.layout.specs.Walk.{fine, u32_at, bytes_at}
+use Rattle.records.specs.Pose.{pose_bits, pose_of}
+use Rattle.records.specs.declared.pose.PoseBits.{PoseBits}
 use Rattle.clip.specs.Keys.{posed, float_at}
 use Rattle.clip.specs.Section.{bone_body, morph_body}
 use Rattle.keys.specs.Words.{words}
+use Rattle.keys.proofs.ItemsRead.{pose-was}
 
 pub length-bytes_at : (s : List ℕ) (at n : ℕ) → length (bytes_at s at n) ≡ n
 unfolding bytes_at
@@ -67,3 +70,11 @@ pose-is s at =
       word_in s (at + 28) 16 8 (omega arith),
       word_in s (at + 28) 16 12 (omega arith),
     )
+
+-- The pose that the record reader has of a body.
+pub pose-read : (s : List ℕ) (at : ℕ) (b : PoseBits) (next : ℕ) → fine b next ≡ pose_bits s (at + 16) → pose_of b ≡ posed (bone_body s at)
+pose-read s at b next e =
+    let behind : at + 16 + 12 ≡ at + 28 = omega arith in
+    ap pose_of (sym (pose-was s (at + 16) b next (sym e)).is) ∙ rw behind (pose-is s at)
+
+pub ruleset posed_is = (pose-read)

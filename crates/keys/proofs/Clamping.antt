@@ -1,46 +1,34 @@
--- Curves that clamping leaves as they are, and their bytes in the section. Assumes nothing.
-use Prim.Native.Nat.{ℕ, ◌+◌}
-use native.Mathlib.Nat.{add_assoc, add-zero}
-use mathlib.Core.Bool.{Bool, true, false, ◌&&◌, cond}
-use mathlib.Core.List.{List, [], ◌++◌}
-use mathlib.Core.Path.{◌≡◌, refl, ap}
-use lib.ListN.{get_or}
-use Rattle.std.proofs.lemmas.Bool.{and_parts}
-use Rattle.layout.specs.Walk.{bytes_at}
-use Rattle.records.specs.Curves.{curves_at}
-use Rattle.keys.specs.Placed.{Room, Wrote, three_curves, curve_bytes}
+-- Which curves of a key are written, and their bytes. Assumes nothing.
+use Prim.Native.Nat.{ℕ}
+use native.Mathlib.Omega.{arith}
+use mathlib.Core.Bool.{true, false}
+use mathlib.Core.List.{List, [], ◌∷◌, ◌++◌, append_assoc, append-nil}
+use mathlib.Core.Path.{◌≡◌, ◌∙◌}
+use lib.ListN.{length, get_or}
+use Rattle.std.specs.List.{flat_map}
+use Rattle.keys.specs.Placed.{Wrote, three_curves, curve_bytes}
 use Rattle.keys.specs.declared.plain.BonePlain.{BonePlain}
-use Rattle.keys.proofs.Placing.{wrote_none, room-front, wrote_then, wrote-three}
+use Rattle.keys.proofs.Placing.{wrote_none}
 
-module _ (s : List ℕ) (at : ℕ) where
-  -- The bytes of the curves stand one behind the other.
-  pub curve-bytes : (p : BonePlain) → curve_bytes p (curves_at s at) ≡ cond p.curves [] (bytes_at s at 12) ++ cond p.rotation [] (bytes_at s (at + 12) 4)
-  unfolding bytes_at
-  curve-bytes p = simp (add-zero, add_assoc)
+-- Four elements, each equal to another.
+pub four : {A : Type 0} {a b c d w x y z : A} → a ≡ w → b ≡ x → c ≡ y → d ≡ z → a ∷ b ∷ c ∷ d ∷ [] ≡ w ∷ x ∷ y ∷ z ∷ []
+four p q r s = cc
 
--- The three curves of a group, one by one.
-pub one-by-one : (p : BonePlain) (cs : List (List ℕ)) → cond p.curves [] (get_or cs 0 []) ++ cond p.curves [] (get_or cs 1 []) ++ cond p.curves [] (get_or cs 2 []) ++ cond p.rotation [] (get_or cs 3 []) ≡ curve_bytes p cs
-one-by-one p cs = ap (λ (xs : List ℕ). xs ++ cond p.rotation [] (get_or cs 3 [])) (go p.curves)
-  where
-    go : (b : Bool) → cond b [] (get_or cs 0 []) ++ cond b [] (get_or cs 1 []) ++ cond b [] (get_or cs 2 []) ≡ cond b [] (three_curves cs)
-    go true = refl
-    go false = refl
+-- Four curves, flattened.
+all-flat : (cs : List (List ℕ)) → length cs ≡ 4 → flat_map (λ x. x) cs ≡ three_curves cs ++ get_or cs 3 []
+all-flat [] l = absurd (omega arith)
+all-flat (a ∷ []) l = absurd (omega arith)
+all-flat (a ∷ b ∷ []) l = absurd (omega arith)
+all-flat (a ∷ b ∷ c ∷ []) l = absurd (omega arith)
+all-flat (a ∷ b ∷ c ∷ d ∷ []) l = simp (append_assoc, append-nil)
+all-flat (a ∷ b ∷ c ∷ d ∷ e ∷ cs) l = absurd (omega arith)
 
-module _ (p : BonePlain) (cs : List (List ℕ)) (place : ℕ) (old : List ℕ) where
-  abbrev part : ℕ → List ℕ
-  part i = cond p.curves [] (get_or cs i [])
+module _ (p : BonePlain) (cs : List (List ℕ)) where
+  pub all-bytes : length cs ≡ 4 → p.curves ≡ false → p.rotation ≡ false → flat_map (λ x. x) cs ≡ curve_bytes p cs
+  all-bytes l c r = all-flat cs l ∙ rw (c, r)
 
-  abbrev rest : List ℕ
-  rest = cond p.rotation [] (get_or cs 3 [])
+  -- Plain curves are not written.
+  pub none_written : (place : ℕ) (old : List ℕ) → p.curves ≡ true → p.rotation ≡ true → Wrote place (curve_bytes p cs) old place old
+  none_written place old c r = rw (c, r) (wrote_none place old)
 
-  pub curves-wrote : (y : ℕ) (one : List ℕ) (z : ℕ) (two : List ℕ) (r : ℕ) (three : List ℕ) (end : ℕ) (new : List ℕ) → Room place (curve_bytes p cs) old → Wrote place (part 0) old y one → Wrote y (part 1) one z two → Wrote z (part 2) two r three → Wrote r rest three end new → Wrote place (curve_bytes p cs) old end new
-  curves-wrote y one z two r three end new room a b c d =
-      let whole : Room place (part 0 ++ part 1 ++ part 2 ++ rest) old = rw (one-by-one p cs) room in
-      rw (← one-by-one p cs)
-      (wrote_then place (part 0 ++ part 1 ++ part 2) rest old whole r three
-      (wrote-three place (part 0) (part 1) (part 2) old (room-front place (part 0 ++ part 1 ++ part 2) rest old whole) y one a z two b r three c)
-      end new d)
-
--- Plain curves are not written.
-pub none_written : (p : BonePlain) (cs : List (List ℕ)) (place : ℕ) (old : List ℕ) → p.curves && p.rotation ≡ true → Wrote place (curve_bytes p cs) old place old
-none_written p cs place old e = let plain = and_parts p.curves p.rotation e in rw (plain.0, plain.1) (wrote_none place old)
+pub ruleset curves = (all-bytes, none_written)

@@ -10,13 +10,13 @@ use mathlib.Core.Path.{◌≡◌, refl, sym, ap, ◌∙◌}
 use lib.Dec.{eqb}
 use lib.Ieee.{eq}
 use lib.ListN.{length, get_or, take, drop}
+use Rattle.layout.specs.Numbers.{float}
 use Rattle.layout.specs.Walk.{bytes_at}
 use Rattle.records.specs.Curves.{curve_at}
-use Rattle.records.specs.Pose.{float}
 use Rattle.records.specs.declared.pose.Pose.{Pose}
 use Rattle.clip.specs.Fields.{BoneBody}
-use Rattle.clip.specs.Keys.{posed, float_at}
-use Rattle.clip.specs.Section.{bone_body, morph_body}
+use Rattle.clip.specs.Keys.{posed}
+use Rattle.clip.specs.Section.{bone_body}
 use Rattle.strip.specs.Plain.{one, plain_float, plain_floats, plain_bytes, plain_curve, plain_curves, clamped, bone_groups, bone_fields, morph_groups, morph_fields}
 use Rattle.strip.specs.Keys.{map_byte}
 use Rattle.keys.specs.Plain.{plain_in, bone_plain, standing}
@@ -137,17 +137,13 @@ bone-map-is s at =
     let p = bone_plain (bone_body s at) in
     omega (arith, scaled p.orientation 2, scaled p.curves 4, scaled p.rotation 8)
 
-pub morph-plain-is : (s : List ℕ) (at : ℕ) → eq (float_at (morph_body s at) 0) (float 0) ≡ plain_in morph_groups (morph_fields (morph_body s at)) 0
-unfolding plain_floats plain_float
-morph-plain-is s at = sym (and-true (eq (float_at (morph_body s at) 0) (float 0)))
-
-pub morph-map-is : (s : List ℕ) (at : ℕ) → cond (plain_in morph_groups (morph_fields (morph_body s at)) 0) 0 1 ≡ map_byte morph_groups (morph_fields (morph_body s at))
+pub morph-map-is : (body : List ℕ) → cond (plain_in morph_groups (morph_fields body) 0) 0 1 ≡ map_byte morph_groups (morph_fields body)
 unfolding map_byte
-morph-map-is s at = omega arith
+morph-map-is body = omega arith
 
 -- At most what all groups together give.
 pub at_most : (b : Bool) (n : ℕ) → cond b 0 n ≤ n
 at_most true n = omega arith
 at_most false n = omega arith
 
-pub ruleset groups = (bone-plain-is, bone-map-is, morph-plain-is, morph-map-is)
+pub ruleset groups = (bone-plain-is)

@@ -8,14 +8,14 @@ use lib.ListN.{length, get_or, length-append}
 use Rattle.layout.specs.Walk.{bytes_at}
 use Rattle.records.specs.Curves.{curves_at}
 use Rattle.clip.specs.Keys.{Key}
-use Rattle.clip.specs.Section.{bone_body, morph_body}
+use Rattle.clip.specs.Section.{bone_body}
 use Rattle.strip.specs.Plain.{Group, clamped, bone_groups, bone_fields, morph_groups, morph_fields}
 use Rattle.strip.specs.Keys.{little_endian, map_byte, present, key_bytes}
 use Rattle.strip.proofs.Bytes.{length-little_endian}
 use Rattle.strip.proofs.Keys.{Shaped}
-use Rattle.strip.proofs.Written.{bone-shaped, morph-shaped}
+use Rattle.strip.proofs.Written.{bone-shaped}
 use Rattle.keys.specs.Plain.{plain_in, bone_plain, standing}
-use Rattle.keys.specs.Placed.{Room, head_bytes, pose_bytes, three_curves, curve_bytes, bone_key_bytes, morph_key_bytes}
+use Rattle.keys.specs.Placed.{Room, head_bytes, pose_bytes, three_curves, curve_bytes, bone_key_bytes}
 use Rattle.keys.specs.declared.plain.BonePlain.{BonePlain}
 use Rattle.keys.proofs.Groups.{first-curves, fourth-curve, bone-map-is, morph-map-is}
 
@@ -53,8 +53,19 @@ module _ (s : List ℕ) (at frame : ℕ) where
   pub bone-length-is : 5 + standing 12 16 12 4 (bone_plain (bone_body s at)) ≡ length (bone_key_bytes s at frame)
   bone-length-is = let l = key-length bone_groups bone_fields (record { frame = frame; body = bone_body s at }) (bone-shaped s at) in omega (arith, l)
 
-  pub morph-length-is : 5 + cond (plain_in morph_groups (morph_fields (morph_body s at)) 0) 0 4 ≡ length (morph_key_bytes s at frame)
-  morph-length-is = let l = key-length morph_groups morph_fields (record { frame = frame; body = morph_body s at }) (morph-shaped s at) in omega (arith, l)
+module _ (frame : ℕ) (body : List ℕ) where
+  pub morph-length-is : length body ≡ 4 → 5 + cond (plain_in morph_groups (morph_fields body) 0) 0 4 ≡ length (key_bytes morph_groups morph_fields (record { frame = frame; body = body }))
+  morph-length-is four = let l = key-length morph_groups morph_fields (record { frame = frame; body = body }) (four, tt) in omega (arith, l)
+
+  module _ (plain : Bool) (byte : ℕ) where
+    pub morph-parts : plain ≡ plain_in morph_groups (morph_fields body) 0 → byte ≡ cond plain 0 1 → head_bytes frame byte ++ cond plain [] body ≡ key_bytes morph_groups morph_fields (record { frame = frame; body = body })
+    unfolding key_bytes present
+    morph-parts pe be =
+        let byte-is : byte ≡ map_byte morph_groups (morph_fields body) = be ∙ rw pe (morph-map-is body) in
+        simp (append_assoc, append-nil) (rw (byte-is, pe))
+
+    pub morph-room : (place : ℕ) (old : List ℕ) → plain ≡ plain_in morph_groups (morph_fields body) 0 → byte ≡ cond plain 0 1 → Room place (key_bytes morph_groups morph_fields (record { frame = frame; body = body })) old → Room place (head_bytes frame byte ++ cond plain [] body) old
+    morph-room place old pe be room = rw (morph-parts pe be) room
 
 regroup : (e : List ℕ) (m : ℕ) (a b c d : List ℕ) → e ++ m ∷ [] ++ (a ++ b) ++ (c ++ d) ≡ e ++ m ∷ (a ++ (b ++ (c ++ (d ++ []))))
 regroup e m a b c d = simp (append_assoc, append-nil)
@@ -75,14 +86,4 @@ module _ (s : List ℕ) (at frame : ℕ) where
     pub bone-room : (place : ℕ) (old : List ℕ) → p ≡ bone_plain (bone_body s at) → cs ≡ map clamped (curves_at s at) → byte ≡ standing 1 2 4 8 p → Room place (bone_key_bytes s at frame) old → Room place (head_bytes frame byte ++ pose_bytes p s at ++ curve_bytes p cs) old
     bone-room place old pe ce be room = rw (bone-parts pe ce be) room
 
-  module _ (plain : Bool) (byte : ℕ) where
-    pub morph-parts : plain ≡ plain_in morph_groups (morph_fields (morph_body s at)) 0 → byte ≡ cond plain 0 1 → head_bytes frame byte ++ cond plain [] (morph_body s at) ≡ morph_key_bytes s at frame
-    unfolding key_bytes present
-    morph-parts pe be =
-        let byte-is : byte ≡ map_byte morph_groups (morph_fields (morph_body s at)) = be ∙ rw pe (morph-map-is s at) in
-        simp (append_assoc, append-nil) (rw (byte-is, pe))
-
-    pub morph-room : (place : ℕ) (old : List ℕ) → plain ≡ plain_in morph_groups (morph_fields (morph_body s at)) 0 → byte ≡ cond plain 0 1 → Room place (morph_key_bytes s at frame) old → Room place (head_bytes frame byte ++ cond plain [] (morph_body s at)) old
-    morph-room place old pe be room = rw (morph-parts pe be) room
-
-pub ruleset lengths = (bone-length-is, morph-length-is)
+pub ruleset lengths = (bone-length-is)

@@ -7,3 +7,5 @@ pub mod Groups
 pub mod Placing
 pub mod Stores
 pub mod Lengths
+pub mod Finite
+pub mod Weights

@@ -1,5 +1,7 @@
 -- Bytes that are written into an output, and what the rest of it is then. Definitions only.
-use Rattle.std.specs.Prelude.{ℕ, ◌+◌, ◌≤◌, cond, List, [], ◌∷◌, ◌++◌, ◌≡◌, length, take, drop, get_or}
+use Rattle.std.specs.Prelude.{ℕ, ◌+◌, ◌≤◌, cond, List, [], ◌∷◌, ◌++◌, ◌≡◌, length, take, drop, get_or, Float}
+use Rattle.std.specs.Float.{binary32}
+use Rattle.std.specs.Float.Ieee.{to_bits}
 use Rattle.clip.specs.Section.{bone_body, morph_body}
 use Rattle.strip.specs.Plain.{bone_groups, bone_fields, morph_groups, morph_fields}
 use Rattle.strip.specs.Keys.{little_endian, key_bytes}
@@ -23,6 +25,10 @@ bone_key_bytes s at frame = key_bytes bone_groups bone_fields (record { frame = 
 
 abbrev pub morph_key_bytes : List ℕ → ℕ → ℕ → List ℕ
 morph_key_bytes s at frame = key_bytes morph_groups morph_fields (record { frame = frame; body = morph_body s at })
+
+-- A morph key by its frame and its weight, whose bytes are those of the float's bits.
+abbrev pub weight_key_bytes : ℕ → Float → List ℕ
+weight_key_bytes frame weight = key_bytes morph_groups morph_fields (record { frame = frame; body = little_endian 4 (to_bits binary32 weight) })
 
 -- The parts of a key as they are written: frame and map byte; the pose and the curves, each group unless it is plain.
 abbrev pub head_bytes : ℕ → ℕ → List ℕ

@@ -1,12 +1,19 @@
 // The body of a record, behind its links, that stands whole in the lent section: "interpolation 16 bytes, translation 3 f32,
 // orientation 4 f32", or "weight f32".
 ghost use Rattle.std.specs.Prelude.{◌≡◌, ◌+◌, ◌≤◌, length};
-ghost use Rattle.clip.specs.Keys.{float_at, posed};
+ghost use Rattle.layout.specs.Numbers.{float};
+ghost use Rattle.clip.specs.Keys.{finite, float_at, posed};
 ghost use Rattle.clip.specs.Section.{bone_body, morph_body};
+ghost use Rattle.keys.specs.Answers.{WeightTold};
 
 use binary::numbers;
+use records::pose;
 use records::pose::Pose;
-use std::num;
+
+// Where the translation and the orientation begin.
+const TRANSLATION: usize = 16;
+
+const ORIENTATION: usize = 28;
 
 #[derive(Clone, Copy)]
 pub struct BoneBody<'a> {
@@ -22,55 +29,46 @@ pub struct MorphBody<'a> {
     ghost whole: { at + 4 ≤ length section.now },
 }
 
-fn float_at(bytes: &[u8], at: usize) -> f32
-    requires { at + 4 ≤ length bytes.now }
-    ensures { result ≡ float_at bytes.now at }
-{
-    num::f32_from_bits_with_nan(numbers::u32_at(bytes, at))
-}
-
 #[tactic(auto, unfolding(clip::specs::Section::bone_body))]
 impl<'a> BoneBody<'a> {
     pub fn translation(&self) -> [u8; 12]
         ensures { result ≡ (bone_body self.now.section.now self.now.at).translation }
     {
-        numbers::bytes(self.section, self.at + 16)
+        numbers::bytes(self.section, self.at + TRANSLATION)
     }
 
     pub fn orientation(&self) -> [u8; 16]
         ensures { result ≡ (bone_body self.now.section.now self.now.at).orientation }
     {
-        numbers::bytes(self.section, self.at + 28)
+        numbers::bytes(self.section, self.at + ORIENTATION)
     }
 
+    #[tactic(auto, using(crate::proofs::Bodies::posed_is))]
     pub fn pose(&self) -> Pose
         ensures { result ≡ posed (bone_body self.now.section.now self.now.at) }
     {
-        let translation = self.translation();
-        let orientation = self.orientation();
-        Pose {
-            translation_x: float_at(&translation, 0),
-            translation_y: float_at(&translation, 4),
-            translation_z: float_at(&translation, 8),
-            orientation_x: float_at(&orientation, 0),
-            orientation_y: float_at(&orientation, 4),
-            orientation_z: float_at(&orientation, 8),
-            orientation_w: float_at(&orientation, 12),
-        }
+        Pose::from(pose::pose_at(self.section, self.at + TRANSLATION))
     }
 }
 
-#[tactic(auto, unfolding(clip::specs::Section::morph_body))]
-impl<'a> MorphBody<'a> {
-    pub fn weight_bytes(&self) -> [u8; 4]
-        ensures { result ≡ morph_body self.now.section.now self.now.at }
-    {
-        numbers::bytes(self.section, self.at)
-    }
+// Whether the float of 32 bits is finite: the bits of its exponent are not all 1.
+#[tactic(auto, using(crate::proofs::Finite::bits))]
+fn finite_bits(bits: u32) -> bool
+    ensures { result ≡ finite (float bits) }
+{
+    bits % 2147483648 / 8388608 != 255
+}
 
-    pub fn weight(&self) -> f32
-        ensures { result ≡ float_at (morph_body self.now.section.now self.now.at) 0 }
+impl<'a> MorphBody<'a> {
+    // The weight, if it is finite. Its bits tell that before they are a float: no NaN need be looked for then.
+    pub fn finite_weight(&self) -> Option<f32>
+        ensures { WeightTold (float_at (morph_body self.now.section.now self.now.at) 0) result }
     {
-        float_at(&self.weight_bytes(), 0)
+        let bits = numbers::u32_at(self.section, self.at);
+        if finite_bits(bits) {
+            Some(f32::from_bits(bits))
+        } else {
+            None
+        }
     }
 }

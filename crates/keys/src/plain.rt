@@ -2,15 +2,43 @@
 // floats: -0 equals 0, and a NaN equals nothing.
 ghost use Rattle.std.specs.Prelude.{◌≡◌, ◌&&◌, cond, [], ◌+◌, ◌≤◌, ◌<◌, length};
 ghost use Rattle.std.specs.Float.Ieee.{eq};
+ghost use Rattle.layout.specs.Numbers.{float};
 ghost use Rattle.records.specs.Curves.{curve_at};
-ghost use Rattle.records.specs.Pose.{float};
-ghost use Rattle.clip.specs.Section.{bone_body, morph_body};
-ghost use Rattle.strip.specs.Plain.{one, plain_curve, plain_bytes, clamped, morph_groups, morph_fields};
-ghost use Rattle.keys.specs.Plain.{plain_in, bone_plain, standing};
+ghost use Rattle.clip.specs.Section.{bone_body};
+ghost use Rattle.strip.specs.Plain.{one, plain_curve, plain_bytes, clamped};
+ghost use Rattle.keys.specs.Plain.{bone_plain, standing};
 
-use crate::body::{BoneBody, MorphBody};
+use crate::body::BoneBody;
 use binary::numbers;
 use records::pose::Pose;
+
+// The bytes 20, 20, 107, 107.
+const PLAIN_CURVE: u32 = 0x6b6b_1414;
+
+// Where the rotation's curve begins.
+const ROTATION: usize = 12;
+
+// The bit of each group in the map byte, and how many bytes its fields have.
+const TRANSLATION_BIT: u8 = 1;
+
+const ORIENTATION_BIT: u8 = 2;
+
+const CURVES_BIT: u8 = 4;
+
+const ROTATION_BIT: u8 = 8;
+
+const TRANSLATION_WIDTH: u8 = 12;
+
+const ORIENTATION_WIDTH: u8 = 16;
+
+const CURVES_WIDTH: u8 = 12;
+
+const ROTATION_WIDTH: u8 = 4;
+
+// Of a morph's one group, its weight.
+pub const WEIGHT_BIT: u8 = 1;
+
+pub const WEIGHT_WIDTH: u8 = 4;
 
 // A group for each bit, in the order of the bits.
 #[derive(Clone, Copy)]
@@ -40,13 +68,13 @@ fn plain_orientation(pose: Pose) -> bool
     zeros(pose.orientation_x, pose.orientation_y, pose.orientation_z) & (w == 1.0)
 }
 
-// The bytes 20, 20, 107, 107 as one number. They are below 127, so the curve need not be clamped to be compared.
+// A curve is compared as one number. The bytes of a plain one are below 127, so it need not be clamped before.
 #[tactic(auto, using(crate::proofs::Groups::plain_word))]
 fn plain_curve(s: &[u8], at: usize) -> bool
     requires { at + 4 ≤ length s.now }
     ensures { result ≡ plain_bytes plain_curve (clamped (curve_at s.now at)) }
 {
-    numbers::u32_at(s, at) == 1802179604
+    numbers::u32_at(s, at) == PLAIN_CURVE
 }
 
 // The x, y and z curves.
@@ -65,9 +93,9 @@ pub fn unless(plain: bool, n: u8) -> u8
 }
 
 impl BonePlain {
-    // The sum of one number for each group that is not plain: of the bits, the map byte; of the widths, how many bytes follow it.
+    // The sum of one number for each group that is not plain.
     #[tactic(auto, using(crate::proofs::Groups::at_most))]
-    pub fn standing(self, translation: u8, orientation: u8, curves: u8, rotation: u8) -> u8
+    fn standing(self, translation: u8, orientation: u8, curves: u8, rotation: u8) -> u8
         requires { translation + orientation + curves + rotation < 256 }
         ensures { result ≡ standing translation orientation curves rotation self }
     {
@@ -76,6 +104,24 @@ impl BonePlain {
         let c = unless(self.curves, curves);
         let d = unless(self.rotation, rotation);
         a + b + c + d
+    }
+
+    pub fn map_byte(self) -> u8
+        ensures { result ≡ standing 1 2 4 8 self }
+    {
+        self.standing(TRANSLATION_BIT, ORIENTATION_BIT, CURVES_BIT, ROTATION_BIT)
+    }
+
+    // How many bytes follow the map byte.
+    pub fn width(self) -> u8
+        ensures { result ≡ standing 12 16 12 4 self }
+    {
+        self.standing(
+            TRANSLATION_WIDTH,
+            ORIENTATION_WIDTH,
+            CURVES_WIDTH,
+            ROTATION_WIDTH,
+        )
     }
 }
 
@@ -88,21 +134,12 @@ impl<'a> BoneBody<'a> {
         let translation = plain_translation(pose);
         let orientation = plain_orientation(pose);
         let curves = plain_curves(self.section, self.at);
-        let rotation = plain_curve(self.section, self.at + 12);
+        let rotation = plain_curve(self.section, self.at + ROTATION);
         BonePlain {
             translation,
             orientation,
             curves,
             rotation,
         }
-    }
-}
-
-impl<'a> MorphBody<'a> {
-    #[tactic(auto, using(crate::proofs::Groups::groups))]
-    pub fn plain(&self) -> bool
-        ensures { result ≡ plain_in morph_groups (morph_fields (morph_body self.now.section.now self.now.at)) 0 }
-    {
-        self.weight() == 0.0
     }
 }

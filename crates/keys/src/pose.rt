@@ -15,6 +15,9 @@ ghost use Rattle.keys.specs.Answers.{asked_read};
 use crate::body::BoneBody;
 use records::pose::Pose;
 
+// The squared length up to which an orientation is refused: 2^-23.
+const LIMIT: f32 = 1.1920929e-7;
+
 // What is against a pose, 12 or 13; specs/Answers.antt gives the numbers.
 #[derive(Clone, Copy, Debug, PartialEq, Eq)]
 pub enum PoseFault {
@@ -57,8 +60,7 @@ fn orientation_fails(pose: Pose) -> bool
     let z = pose.orientation_z;
     let w = pose.orientation_w;
     let all = finite3(x, y, z) & finite(w);
-    // The limit is 2^-23, equality refused.
-    !all | (squared_length(x, y, z, w) <= 1.1920929e-7)
+    !all | (squared_length(x, y, z, w) <= LIMIT)
 }
 
 #[tactic(auto, using(crate::proofs::Asking::poses))]

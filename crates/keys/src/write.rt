@@ -1,14 +1,15 @@
 // One key's bytes in a strip (document 01, "The strip"): a bone key is frame u32 and a map byte, then only the fields whose bit
 // stands; a morph key likewise.
-ghost use Rattle.std.specs.Prelude.{◌≡◌, ◌+◌, ◌≤◌, length, map};
-ghost use Rattle.records.specs.Curves.{curves_at};
-ghost use Rattle.strip.specs.Plain.{clamped};
+ghost use Rattle.std.specs.Prelude.{◌≡◌, ◌+◌, ◌≤◌, length};
 ghost use Rattle.strip.specs.Keys.{little_endian};
-ghost use Rattle.keys.specs.Placed.{placed, Room, Wrote, head_bytes, curve_bytes, bone_key_bytes, morph_key_bytes};
+ghost use Rattle.keys.specs.Placed.{placed, Room, Wrote, head_bytes, bone_key_bytes, weight_key_bytes};
+ghost use Rattle.std.specs.Float.{NotNan};
 
-use crate::body::{BoneBody, MorphBody};
-use crate::plain::BonePlain;
+use crate::body::BoneBody;
 use crate::{fields, plain};
+
+// The bytes before the fields: frame u32 and map byte.
+const HEAD: usize = 5;
 
 #[tactic(auto, using(crate::proofs::Stores::stores))]
 pub fn write_count(output: &mut [u8], place: usize, n: usize)
@@ -33,22 +34,8 @@ impl<'a> BoneBody<'a> {
     pub fn key_length(&self) -> usize
         ensures { result ≡ length (bone_key_bytes self.now.section.now self.now.at 0) }
     {
-        let fields = self.plain().standing(12, 16, 12, 4);
-        5 + fields as usize
-    }
-
-    // Curves are copied as they stand where nothing is to be clamped.
-    fn write_curves(&self, plain: BonePlain, output: &mut [u8], place: usize) -> usize
-        requires { Room place (curve_bytes plain (map clamped (curves_at self.now.section.now self.now.at))) output.old }
-        ensures { Wrote place (curve_bytes plain (map clamped (curves_at self.now.section.now self.now.at))) output.old result output.new }
-    {
-        if plain.curves & plain.rotation {
-            return place;
-        }
-        if self.curves_in_range() {
-            return plain.copy_curves(self, output, place);
-        }
-        plain.write_curves(self.curves(), output, place)
+        let fields = self.plain().width();
+        HEAD + fields as usize
     }
 
     pub fn write_key(&self, frame: u32, output: &mut [u8], place: usize) -> usize
@@ -56,29 +43,28 @@ impl<'a> BoneBody<'a> {
         ensures { Wrote place (bone_key_bytes self.now.section.now self.now.at frame) output.old result output.new }
     {
         let plain = self.plain();
-        let map = plain.standing(1, 2, 4, 8);
+        let map = plain.map_byte();
         let pose = write_head(output, place, frame, map);
         let next = plain.write_pose(self, output, pose);
-        self.write_curves(plain, output, next)
+        plain.write_curves(self.curves(), output, next)
     }
 }
 
-impl<'a> MorphBody<'a> {
-    #[tactic(auto, using(crate::proofs::Lengths::lengths))]
-    pub fn key_length(&self) -> usize
-        ensures { result ≡ length (morph_key_bytes self.now.section.now self.now.at 0) }
-    {
-        let fields = plain::unless(self.plain(), 4);
-        5 + fields as usize
-    }
+// A morph key by its value. The bytes of a weight that was read and is finite are those of its record.
+pub fn morph_key_length(weight: f32) -> usize
+    ensures { result ≡ length (weight_key_bytes 0 weight) }
+{
+    let fields = plain::unless(weight == 0.0, plain::WEIGHT_WIDTH);
+    HEAD + fields as usize
+}
 
-    pub fn write_key(&self, frame: u32, output: &mut [u8], place: usize) -> usize
-        requires { Room place (morph_key_bytes self.now.section.now self.now.at frame) output.old }
-        ensures { Wrote place (morph_key_bytes self.now.section.now self.now.at frame) output.old result output.new }
-    {
-        let plain = self.plain();
-        let map = plain::unless(plain, 1);
-        let weight = write_head(output, place, frame, map);
-        fields::put_unless(plain, &self.weight_bytes(), output, weight)
-    }
+pub fn write_morph_key(frame: u32, weight: f32, output: &mut [u8], place: usize) -> usize
+    requires number { NotNan weight }
+    requires room { Room place (weight_key_bytes frame weight) output.old }
+    ensures { Wrote place (weight_key_bytes frame weight) output.old result output.new }
+{
+    let plain = weight == 0.0;
+    let map = plain::unless(plain, plain::WEIGHT_BIT);
+    let next = write_head(output, place, frame, map);
+    fields::put_unless(plain, &weight.to_bits().to_le_bytes(), output, next)
 }

@@ -9,6 +9,7 @@ use native.Mathlib.Decide.{dec_le}
 use native.Mathlib.Omega.{arith}
 use borrow.Author.Tests.{le-leb, lt-leb}
 use lib.ListN.{length, replicate}
+use Rattle.layout.specs.Refusals.{too_short}
 use Rattle.layout.specs.Walk.{fine, refused_at, items, times}
 use Rattle.layout.specs.Records.{size}
 use Rattle.layout.specs.Blocks.{place, run_place}
@@ -26,7 +27,7 @@ items-whole (width ∷ widths) s at fits =
     let ends : at + width + size widths ≡ at + (width + size widths) = omega arith in
     rw (whole width _ s at (omega arith)) (rest ∙ ap (fine tt) ends)
 
-pub items-short : (widths s : List ℕ) (at : ℕ) → at ≤ length s → length s < at + size widths → items widths s at ≡ refused_at 1 (at + place widths (length s - at))
+pub items-short : (widths s : List ℕ) (at : ℕ) → at ≤ length s → length s < at + size widths → items widths s at ≡ refused_at too_short (at + place widths (length s - at))
 unfolding items size place
 items-short [] s at starts lacks = absurd (omega arith)
 items-short (width ∷ widths) s at starts lacks =
@@ -35,10 +36,10 @@ items-short (width ∷ widths) s at starts lacks =
           let left : length s - (at + width) ≡ length s - at - width = omega arith in
           let here : at + width + place widths (length s - at - width) ≡ at + (width + place widths (length s - at - width)) = omega arith in
           rw (whole width _ s at (omega arith), le-leb _ _ fits)
-          (items-short widths s (at + width) (omega arith) (omega arith) ∙ ap (λ (room : ℕ). refused_at 1 (at + width + place widths room)) left ∙ ap (refused_at 1) here)
+          (items-short widths s (at + width) (omega arith) (omega arith) ∙ ap (λ (room : ℕ). refused_at too_short (at + width + place widths room)) left ∙ ap (refused_at too_short) here)
       | no lack ↦
           let here : at + 0 ≡ at = omega arith in
-          rw (short width _ s at (omega arith), lt-leb width (length s - at) (omega arith)) (ap (refused_at 1) (sym here))
+          rw (short width _ s at (omega arith), lt-leb width (length s - at) (omega arith)) (ap (refused_at too_short) (sym here))
     ]
 
 pub place-le : (widths : List ℕ) (room : ℕ) → place widths room ≤ room
@@ -76,7 +77,7 @@ block-first widths room lacks =
     let none = zero-mul (size widths) in
     rw (div-eq_of_lt lacks, mod-eq_of_lt lacks) (omega arith)
 
-pub times-short : (n : ℕ) (widths s : List ℕ) (at : ℕ) → 0 < size widths → at ≤ length s → length s < at + n * size widths → times n (items widths) s at ≡ refused_at 1 (at + block_place widths (length s - at))
+pub times-short : (n : ℕ) (widths s : List ℕ) (at : ℕ) → 0 < size widths → at ≤ length s → length s < at + n * size widths → times n (items widths) s at ≡ refused_at too_short (at + block_place widths (length s - at))
 unfolding times
 times-short zero widths s at some starts lacks =
     let none = zero-mul (size widths) in
@@ -89,9 +90,9 @@ times-short (suc n) widths s at some starts lacks =
           let next = block-next widths (length s - at) some fits in
           let here : at + size widths + block_place widths (length s - at - size widths) ≡ at + block_place widths (length s - at) = omega arith in
           rw (items-whole widths s at (omega arith))
-          (times-short n widths s (at + size widths) some (omega arith) (omega arith) ∙ ap (λ (room : ℕ). refused_at 1 (at + size widths + block_place widths room)) left ∙ ap (refused_at 1) here)
+          (times-short n widths s (at + size widths) some (omega arith) (omega arith) ∙ ap (λ (room : ℕ). refused_at too_short (at + size widths + block_place widths room)) left ∙ ap (refused_at too_short) here)
       | no lack ↦
-          rw (items-short widths s at starts (omega arith)) (ap (λ (p : ℕ). refused_at 1 (at + p)) (block-first widths (length s - at) (omega arith)))
+          rw (items-short widths s at starts (omega arith)) (ap (λ (p : ℕ). refused_at too_short (at + p)) (block-first widths (length s - at) (omega arith)))
     ]
 
 -- A run of equal items in front.

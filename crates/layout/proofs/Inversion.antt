@@ -1,5 +1,5 @@
 -- From a walk that went well back to its steps. Assumes nothing.
-use Prim.Native.Nat.{ℕ, ◌+◌, ◌≤◌, ◌<◌, ◌^◌}
+use Prim.Native.Nat.{ℕ, ◌+◌, ◌≤◌, ◌<◌}
 use mathlib.Core.Bool.{Bool, true, false, cond}
 use mathlib.Core.List.{List}
 use mathlib.Core.Path.{◌≡◌, refl}
@@ -7,6 +7,8 @@ use native.Mathlib.Omega.{arith}
 use borrow.Author.Tests.{leb-true, leb-false, ltb-false}
 use lib.Dec.{leb, ltb}
 use lib.ListN.{length}
+use Rattle.layout.specs.Refusals.{too_short, negative_count, count_above_limit}
+use Rattle.layout.specs.Numbers.{least_negative, negative}
 use Rattle.layout.specs.Walk.{Walk, fine, refused, refused_at, after, item, u32, count}
 
 -- The step in front, and what follows it.
@@ -31,21 +33,21 @@ same-value e = cc
 
 -- A count that was read is an i32 that is not negative, and not above its limit.
 pub record Counted (limit n : ℕ) : Type 0 where
-  pub positive : n < 2147483648
+  pub positive : n < least_negative
   pub within : n ≤ limit
 
 pub counted : (limit : ℕ) (s : List ℕ) (at n next : ℕ) → count limit s at ≡ fine n next → Counted limit n
 unfolding count
 counted limit s at n next e =
     let back = came (u32 s at) _ n next e in
-    go back.value back.at (leb (2 ^ 31) back.value) (ltb limit back.value) refl refl back.rest
+    go back.value back.at (negative back.value) (ltb limit back.value) refl refl back.rest
   where
-    go : (m after : ℕ) (high above : Bool) → leb (2 ^ 31) m ≡ high → ltb limit m ≡ above → cond high (refused_at 2 at) (cond above (refused_at 20 at) (fine m after)) ≡ fine n next → Counted limit n
+    go : (m after : ℕ) (high above : Bool) → negative m ≡ high → ltb limit m ≡ above → cond high (refused_at negative_count at) (cond above (refused_at count_above_limit at) (fine m after)) ≡ fine n next → Counted limit n
     go m after true above h a e = absurd (let z : ◌≡◌ {A = ℕ} 0 1 = cc in omega arith)
     go m after false true h a e = absurd (let z : ◌≡◌ {A = ℕ} 0 1 = cc in omega arith)
     go m after false false h a e =
         let same : m ≡ n = cc in
-        let low = leb-false (2 ^ 31) m h in
+        let low = leb-false least_negative m h in
         let under = ltb-false limit m a in
         record { positive = omega arith; within = omega arith }
 
@@ -54,7 +56,7 @@ pub item-fits : {A : Type 0} (width : ℕ) (value : List ℕ → ℕ → A) (s :
 unfolding item
 item-fits {A} width value s at a next e = go (leb (at + width) (length s)) refl e
   where
-    go : (b : Bool) → leb (at + width) (length s) ≡ b → cond b (fine (value s at) (at + width)) (refused_at 1 at) ≡ fine a next → at + width ≤ length s
+    go : (b : Bool) → leb (at + width) (length s) ≡ b → cond b (fine (value s at) (at + width)) (refused_at too_short at) ≡ fine a next → at + width ≤ length s
     go true test e = leb-true (at + width) (length s) test
     go false test e = absurd (let z : ◌≡◌ {A = ℕ} 0 1 = cc in omega arith)
 
@@ -67,6 +69,6 @@ pub item-was : {A : Type 0} (width : ℕ) (value : List ℕ → ℕ → A) (s : 
 unfolding item
 item-was {A} width value s at a next e = go (leb (at + width) (length s)) e
   where
-    go : (b : Bool) → cond b (fine (value s at) (at + width)) (refused_at 1 at) ≡ fine a next → Was (value s at) (at + width) a next
+    go : (b : Bool) → cond b (fine (value s at) (at + width)) (refused_at too_short at) ≡ fine a next → Was (value s at) (at + width) a next
     go true e = record { is = cc; to = cc }
     go false e = absurd (let z : ◌≡◌ {A = ℕ} 0 1 = cc in omega arith)

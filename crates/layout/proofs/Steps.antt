@@ -7,6 +7,7 @@ use borrow.Author.Tests.{le-leb, lt-leb}
 use lib.ListN.{length}
 use lib.Dec.{leb}
 use mathlib.Core.Bool.{Bool, true, false, cond}
+use Rattle.layout.specs.Refusals.{too_short}
 use Rattle.layout.specs.Walk.{Refusal, Walk, fine, refused, refused_at, Reader, after, item, block, times}
 
 module _ {A : Type 0} (width : ℕ) (value : List ℕ → ℕ → A) (s : List ℕ) (at : ℕ) where
@@ -14,7 +15,7 @@ module _ {A : Type 0} (width : ℕ) (value : List ℕ → ℕ → A) (s : List �
   unfolding item
   whole fits = simp (le-leb _ _ fits)
 
-  pub short : length s < at + width → item width value s at ≡ refused_at 1 at
+  pub short : length s < at + width → item width value s at ≡ refused_at too_short at
   unfolding item
   short lacks = simp (lt-leb _ _ lacks)
 
@@ -33,7 +34,7 @@ module _ {A : Type 0} (width : ℕ) (value : List ℕ → ℕ → A) (s : List �
   unfolding item
   read_as next e = go (leb (at + width) (length s)) e
     where
-      go : (b : Bool) → cond b (fine (tt {0}) (at + width)) (refused_at 1 at) ≡ fine (tt {0}) next → cond b (fine (value s at) (at + width)) (refused_at 1 at) ≡ fine (value s at) next
+      go : (b : Bool) → cond b (fine (tt {0}) (at + width)) (refused_at too_short at) ≡ fine (tt {0}) next → cond b (fine (value s at) (at + width)) (refused_at too_short at) ≡ fine (value s at) next
       go true e = cc
       go false e = cc
 

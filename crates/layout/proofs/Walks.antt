@@ -7,6 +7,7 @@ use mathlib.Core.Path.{◌≡◌, refl, sym, ap, subst, ◌∙◌}
 use native.Mathlib.Omega.{arith}
 use lib.Dec.{leb}
 use lib.ListN.{length, replicate}
+use Rattle.layout.specs.Refusals.{too_short}
 use Rattle.layout.specs.Walk.{Walk, fine, refused, refused_at, Reader, after, ◌>>=◌, give, here, item, block, u8, bool, u32, times, items}
 use Rattle.layout.specs.Records.{constraint_state, pair}
 
@@ -51,7 +52,7 @@ pub walks-item : {A : Type 0} (width : ℕ) (value : List ℕ → ℕ → A) →
 unfolding items item
 walks-item {A} width value = record { same = λ s at. go s at (leb (at + width) (length s)) }
   where
-    go : (s : List ℕ) (at : ℕ) (b : Bool) → end (cond b (fine (value s at) (at + width)) (refused_at 1 at)) ≡ after (cond b (fine (tt {0}) (at + width)) (refused_at 1 at)) (λ u next. fine tt next)
+    go : (s : List ℕ) (at : ℕ) (b : Bool) → end (cond b (fine (value s at) (at + width)) (refused_at too_short at)) ≡ after (cond b (fine (tt {0}) (at + width)) (refused_at too_short at)) (λ u next. fine tt next)
     go s at true = refl
     go s at false = refl
 

@@ -1,10 +1,8 @@
 -- Reading a section item by item, as document 01 describes it: each item stands whole at its offset, or the reading ends there with
 -- refusal 1. Definitions only.
-use Rattle.std.specs.Prelude.{ℕ, zero, suc, ◌+◌, ◌*◌, ◌^◌, ◌-◌, List, [], ◌∷◌, ◌++◌, Bool, not, cond, ◌≡◌, length, get_or, take, drop, leb, ltb, eqb, ℤ, pos, Float}
-use Rattle.std.specs.Float.Ieee.{of_bits}
-use Rattle.std.specs.Float.{binary32}
-use Rattle.std.specs.Int.{w32}
-use Rattle.std.proofs.Common.{to_z}
+use Rattle.std.specs.Prelude.{ℕ, zero, suc, ◌+◌, ◌*◌, ◌-◌, List, [], ◌∷◌, ◌++◌, Bool, not, cond, ◌≡◌, length, get_or, take, drop, leb, ltb, eqb, ℤ, pos, Float}
+use Rattle.layout.specs.Refusals.{too_short, negative_count, count_above_limit}
+use Rattle.layout.specs.Numbers.{signed, least_negative, negative, float}
 use Rattle.layout.specs.declared.Part.{Part}
 
 -- A refusal: its number in 01, "Turned down, and by whose doing", and the values listed there, in that order.
@@ -68,7 +66,7 @@ refused_at number at = refused (refusal number (pos at ∷ []))
 -- 1: a value does not fit in the bytes left, a start past the end included (place: the offset of the item that is not whole).
 -- An item is `width` bytes; `value` says what they are.
 unfoldable pub item : {A : Type 0} → ℕ → (List ℕ → ℕ → A) → Reader A
-item width value s at = cond (leb (at + width) (length s)) (fine (value s at) (at + width)) (refused_at 1 at)
+item width value s at = cond (leb (at + width) (length s)) (fine (value s at) (at + width)) (refused_at too_short at)
 
 -- Numbers are little endian.
 abbrev pub u32_at : List ℕ → ℕ → ℕ
@@ -90,12 +88,12 @@ u32 = item 4 u32_at
 abbrev pub i32 : Reader ℤ
 i32 = do
   b ← u32
-  give (to_z w32 b)
+  give (signed b)
 
 abbrev pub f32 : Reader Float
 f32 = do
   b ← u32
-  give (of_bits binary32 b)
+  give (float b)
 
 -- A skipped block, a string body or an interpolation block is one item.
 abbrev pub block : ℕ → Reader (Unit {0})
@@ -141,11 +139,11 @@ times (suc n) m = do
 unfoldable pub count : ℕ → Reader ℕ
 count limit s at =
     after (u32 s at)
-    (λ n next. cond (leb (2 ^ 31) n) (refused_at 2 at) (cond (ltb limit n) (refused_at 20 at) (fine n next)))
+    (λ n next. cond (negative n) (refused_at negative_count at) (cond (ltb limit n) (refused_at count_above_limit at) (fine n next)))
 
 -- No i32 is above this limit: for the counts to which 20 does not apply.
 abbrev pub unlimited : ℕ
-unlimited = 2 ^ 31 - 1
+unlimited = least_negative - 1
 
 -- The items of a record, given by their widths, in file order.
 unfoldable pub items : List ℕ → Reader (Unit {0})

@@ -1,6 +1,6 @@
 // One model section: its counts, every key of its strip and how many records are loose, or the number of the refusal.
 use crate::strip_keys;
-use chains::block::Kind;
+use blocks::kind::Kind;
 use section::summary;
 use section::summary::PmmDocumentModelSummary;
 use std::io;

@@ -1,7 +1,7 @@
 // The keys of a strip (document 01, "The strip"), one line each.
 ghost use Rattle.std.specs.Prelude.{◌≤◌};
 
-use chains::block::Kind;
+use blocks::kind::Kind;
 use std::io;
 use std::io::Read;
 

@@ -5,7 +5,7 @@ use Rattle.layout.specs.Records.{constraint_state, pair}
 use Rattle.layout.proofs.Steps.{after-after, after-fine}
 use Rattle.binary.specs.Groups.{u32s}
 use Rattle.records.specs.Keyframes.{model_bits, model_of}
-use Rattle.section.specs.Limits.{Limits}
+use Rattle.section.specs.declared.limits.Limits.{Limits}
 use Rattle.section.specs.declared.model.Model.{Model}
 use Rattle.section.specs.declared.names.Counts.{Counts}
 use Rattle.lists.specs.Lists.{listed, entry_at, locate, nth}

@@ -6,11 +6,12 @@ use mathlib.Core.Path.{◌≡◌, refl, sym, subst, ◌∙◌}
 use native.Mathlib.Omega.{arith}
 use lib.Dec.{eqb, ltb}
 use lib.ListN.{length, take, drop, length-take, length-drop}
+use Rattle.layout.specs.Refusals.{absent}
 use Rattle.layout.specs.Walk.{Walk, fine, refused, refusal, after, item, times, answered, answer, u8, bytes_of, string, before_zero, fixed_string}
 use Rattle.layout.specs.declared.Part.{Part}
 use Rattle.layout.proofs.Steps.{whole}
 use Rattle.layout.proofs.Inversion.{came, same-value, item-fits}
-use Rattle.section.specs.Limits.{Limits}
+use Rattle.section.specs.declared.limits.Limits.{Limits}
 use Rattle.section.specs.Model.{model_section}
 use Rattle.section.specs.declared.model.Model.{Model}
 use Rattle.section.specs.declared.names.Names.{Names}
@@ -50,7 +51,7 @@ name-inside : (names : Names) (k : ℕ) (s : List ℕ) (p : Part) (next : ℕ) �
 unfolding name_at
 name-inside names k s p next e = go (ltb k names.count) e
   where
-    go : (few : Bool) → cond few (after (times k string s names.offset) (λ u at. string s at)) (refused (refusal 19 [])) ≡ fine p next → Inside s p
+    go : (few : Bool) → cond few (after (times k string s names.offset) (λ u at. string s at)) (refused (refusal absent [])) ≡ fine p next → Inside s p
     go true e = let c = came (times k string s names.offset) _ p next e in string-inside s c.at p next c.rest
     go false e = absurd (let z : ◌≡◌ {A = ℕ} 0 1 = cc in omega arith)
 

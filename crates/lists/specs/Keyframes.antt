@@ -5,7 +5,7 @@ use Rattle.records.specs.Keyframes.{bone_bits, bone_of, morph_bits, morph_of, mo
 use Rattle.records.specs.declared.bone.PmmDocumentBoneKeyframeSummary.{PmmDocumentBoneKeyframeSummary}
 use Rattle.records.specs.declared.morph.PmmDocumentMorphKeyframeSummary.{PmmDocumentMorphKeyframeSummary}
 use Rattle.records.specs.declared.model.PmmDocumentModelKeyframeSummary.{PmmDocumentModelKeyframeSummary}
-use Rattle.section.specs.Limits.{Limits}
+use Rattle.section.specs.declared.limits.Limits.{Limits}
 use Rattle.lists.specs.Lists.{locate, nth}
 use Rattle.lists.specs.declared.lists.List.{List}
 use Rattle.lists.specs.declared.keyframes.ModelRecord.{ModelRecord}

@@ -1,9 +1,10 @@
 -- Document 01, module 2: "records, names, states and a model record's bools and pairs are answered by number from 0, each list of
 -- the summary on its own". Definitions only.
 use Rattle.std.specs.Prelude.{ℕ, cond, List as ListOf, [], ltb}
+use Rattle.layout.specs.Refusals.{absent}
 use Rattle.layout.specs.Walk.{Walk, fine, refused, refusal, Reader, after, Answer, entry_of, times, items}
 use Rattle.layout.specs.Records.{initial, additional, bone, morph, model, bone_state, morph_state, constraint_state, parent_state}
-use Rattle.section.specs.Limits.{Limits}
+use Rattle.section.specs.declared.limits.Limits.{Limits}
 use Rattle.section.specs.Model.{model_section}
 use Rattle.section.specs.declared.model.Model.{Model}
 use Rattle.lists.specs.declared.lists.List.{List}
@@ -31,7 +32,7 @@ entries_of List.OutsideParentStates m = listed m.front.counts.parents m.states.p
 
 -- Entry k stands behind k others. 19: there is none of that number.
 unfoldable pub entry_at : Listed → ℕ → ListOf ℕ → Walk (Unit {0})
-entry_at e k s = cond (ltb k e.count) (times k (items e.widths) s e.offset) (refused (refusal 19 []))
+entry_at e k s = cond (ltb k e.count) (times k (items e.widths) s e.offset) (refused (refusal absent []))
 
 -- 19 is tested after reading: the section, at the offset of entry k of the list.
 unfoldable pub locate : Limits → List → ℕ → ListOf ℕ → ℕ → Walk Model

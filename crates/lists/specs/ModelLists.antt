@@ -1,12 +1,11 @@
 -- The lists of a model record: "C bools, P pairs of i32", by number. Definitions only.
 use Rattle.std.specs.Prelude.{ℕ, Bool, List as ListOf, slice_index}
-use Rattle.std.specs.Int.{w32}
-use Rattle.std.proofs.Common.{to_z}
+use Rattle.layout.specs.Numbers.{signed}
 use Rattle.layout.specs.Walk.{Reader, after, Answer, bool}
 use Rattle.binary.specs.Groups.{u32s}
 use Rattle.layout.specs.Records.{constraint_state, pair}
 use Rattle.records.specs.Keyframes.{model_bits}
-use Rattle.section.specs.Limits.{Limits}
+use Rattle.section.specs.declared.limits.Limits.{Limits}
 use Rattle.lists.specs.Lists.{listed, entry_at, nth}
 use Rattle.lists.specs.Keyframes.{model_list}
 use Rattle.lists.specs.declared.model_lists.PmmDocumentOutsideParentIndexSummary.{PmmDocumentOutsideParentIndexSummary}
@@ -24,7 +23,7 @@ pair_bits include_index constraints parents k s at =
     (λ b end. after (entry_at (listed parents b.outside_parent_indices_offset pair) k s) (λ u p. u32s 2 s p))
 
 unfoldable pub pair_of : ListOf ℕ → PmmDocumentOutsideParentIndexSummary
-pair_of b = record { parent_model_index = to_z w32 (slice_index b 0); parent_model_bone_index = to_z w32 (slice_index b 1) }
+pair_of b = record { parent_model_index = signed (slice_index b 0); parent_model_bone_index = signed (slice_index b 1) }
 
 abbrev pub model_keyframe_constraint_state : Limits → Bool → ℕ → ℕ → ListOf ℕ → ℕ → Answer Bool
 model_keyframe_constraint_state limits include_index n k =

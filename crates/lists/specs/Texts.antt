@@ -1,10 +1,11 @@
 -- Document 01, "Model section" and module 7: where the name, English name, path and the names of bones and morphs stand, each as
 -- "the part of the section that holds it". Definitions only.
 use Rattle.std.specs.Prelude.{ℕ, cond, List as ListOf, [], ltb}
+use Rattle.layout.specs.Refusals.{absent}
 use Rattle.layout.specs.Walk.{Walk, refused, refusal, after, Answer, answer, times, string, fixed_string}
 use Rattle.layout.specs.declared.Part.{Part}
-use Rattle.section.specs.Limits.{Limits}
-use Rattle.section.specs.Model.{model_section}
+use Rattle.section.specs.declared.limits.Limits.{Limits}
+use Rattle.section.specs.Model.{path_width, model_section}
 use Rattle.section.specs.declared.model.Model.{Model}
 use Rattle.section.specs.declared.names.Names.{Names}
 use Rattle.lists.specs.declared.texts.Text.{Text}
@@ -12,13 +13,13 @@ use Rattle.lists.specs.declared.texts.Text.{Text}
 -- "bone count i32 and names; morph count i32 and names": name k stands behind k others. 19: there is none of that number.
 unfoldable pub name_at : Names → ℕ → ListOf ℕ → Walk Part
 name_at names k s =
-    cond (ltb k names.count) (after (times k string s names.offset) (λ u at. string s at)) (refused (refusal 19 []))
+    cond (ltb k names.count) (after (times k string s names.offset) (λ u at. string s at)) (refused (refusal absent []))
 
 -- "name and English name (length u8, then that many bytes); path, 256 bytes, ending before its first zero byte if it has one"
 unfoldable pub text_at : Text → Model → ListOf ℕ → Walk Part
 text_at Text.Name m s = string s m.front.opening.name_offset
 text_at Text.EnglishName m s = string s m.front.opening.english_name_offset
-text_at Text.Path m s = fixed_string 256 s m.front.opening.path_offset
+text_at Text.Path m s = fixed_string path_width s m.front.opening.path_offset
 text_at (Text.Bone k) m s = name_at m.front.counts.bones k s
 text_at (Text.Morph k) m s = name_at m.front.counts.morphs k s
 

@@ -2,7 +2,8 @@
 ghost use Rattle.std.specs.Prelude.{◌≡◌, ℕ, Bool, List};
 ghost use Rattle.layout.specs.Walk.{Answer};
 ghost use Rattle.binary.specs.Answers.{said};
-ghost use Rattle.section.specs.Limits.{Limits, edition1};
+ghost use Rattle.section.specs.declared.limits.Limits.{Limits};
+ghost use Rattle.section.specs.Limits.{edition1};
 ghost use Rattle.records.specs.declared.base.Span.{Span};
 ghost use Rattle.lists.specs.Parts.{payload_or};
 

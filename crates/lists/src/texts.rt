@@ -12,6 +12,7 @@ use layout::Part;
 use section::model;
 use section::model::Model;
 use section::names::Names;
+use section::opening::PATH_WIDTH;
 
 // Which text: the model's name, its English name or its path, or a bone's or morph's name by its number.
 #[derive(Clone, Copy)]
@@ -44,7 +45,7 @@ fn read_text(s: &[u8], text: Text, m: Model) -> Read<Part>
     match text {
         Text::Name => strings::read_variable_string(s, opening.name_offset),
         Text::EnglishName => strings::read_variable_string(s, opening.english_name_offset),
-        Text::Path => strings::read_fixed_string(s, opening.path_offset, 256),
+        Text::Path => strings::read_fixed_string(s, opening.path_offset, PATH_WIDTH),
         Text::Bone(number) => read_name(s, counts.bones, number),
         Text::Morph(number) => read_name(s, counts.morphs, number),
     }

@@ -1,61 +1,46 @@
 -- One chain marked, record by record: what is left to mark is the rest of the chain. Assumes nothing.
-use Prim.Native.Nat.{ℕ, ◌+◌, ◌≤◌, ◌<◌}
+use Prim.Native.Nat.{ℕ, ◌+◌, ◌<◌}
 use native.Mathlib.Omega.{arith}
-use mathlib.Core.List.{List, [], ◌∷◌, ◌++◌}
-use mathlib.Core.Path.{◌≡◌, refl, sym, ◌∙◌}
-use lib.ListN.{length, set, length-set, length-append}
-use Rattle.std.proofs.Common.{append_assoc}
-use Rattle.layout.specs.Walk.{answered}
-use Rattle.clip.specs.Fields.{Records, Kind}
-use Rattle.clip.specs.Scan.{Indexed}
-use Rattle.clip.specs.Chain.{chain}
-use Rattle.clip.specs.Build.{chain_of}
-use Rattle.clip.proofs.Counting.{distinct-length}
-use Rattle.clip.proofs.Chained.{all-below, no-repeats}
-use Rattle.clip.proofs.Follow.{is-chain}
+use mathlib.Core.List.{List, [], ◌∷◌}
+use mathlib.Core.Path.{◌≡◌, sym, ap, ◌∙◌}
+use lib.ListN.{length, set}
+use Rattle.clip.proofs.Counting.{AllBelow}
+use Rattle.clip.proofs.Chained.{all-below}
+use Rattle.blocks.specs.Block.{links}
+use Rattle.blocks.specs.declared.block.Block.{Block}
+use Rattle.chains.specs.Chain.{chain_at, Ends}
+use Rattle.chains.proofs.AlongChain.{chained}
 use Rattle.marks.specs.Marks.{marked}
 
-module _ {B : Type 0} (kind : Kind) (r : Records B) (track : ℕ) where
-  -- A track whose chain ends.
-  pub record Ending : Type 0 where
-    pub indexed : Indexed r
-    pub is-track : track < r.tracks
-    pub ended : chain kind r track ≡ answered (chain_of kind r track)
+-- The records left, and how many were passed.
+pub record Following (s : List ℕ) (b : Block) (track : ℕ) (before marks left : List ℕ) (n : ℕ) : Type 0 where
+  pub below : AllBelow b.records.count left
+  pub many : n + length left ≡ length (chain_at s b track)
+  pub to-mark : marked (track + 1) (chain_at s b track) before ≡ marked (track + 1) left marks
 
-pub few : {B : Type 0} {kind : Kind} {r : Records B} {track : ℕ} → Ending kind r track → length (chain_of kind r track) ≤ r.additional
-few {r = r} {track} e =
-    let whole = is-chain _ r track _ e.ended in
-    distinct-length r.additional _ (no-repeats r e.indexed track e.is-track (r.initial track).next _ whole) (all-below r _ track (r.initial track).next whole)
+pub begins : {s : List ℕ} {b : Block} {slots : List ℕ} {track : ℕ} → Ends s b slots track → (before : List ℕ) {left : List ℕ} → left ≡ chain_at s b track → Following s b track before before left 0
+begins {s} {b} {slots} {track} x before is =
+    record {
+      below = rw is (all-below (links s b) (chain_at s b track) track ((links s b).initial track).next (chained x));
+      many = let same = ap length is in omega (arith, same);
+      to-mark = rw is;
+    }
 
--- The records passed and those left, and their marks.
-pub record Following (mark : ℕ) (chain before marks passed left : List ℕ) (n : ℕ) : Type 0 where
-  pub whole : passed ++ left ≡ chain
-  pub many : n ≡ length passed
-  pub same : length marks ≡ length before
-  pub to-mark : marked mark chain before ≡ marked mark left marks
+module _ {s : List ℕ} {b : Block} {track : ℕ} {before marks left : List ℕ} {n : ℕ} (g : Following s b track before marks left n) where
+  module _ {p : ℕ} {rest : List ℕ} (is : left ≡ p ∷ rest) where
+    pub first-below : p < b.records.count
+    first-below = (rw is at g.below).0
 
-pub begins : (mark : ℕ) (chain before : List ℕ) {left : List ℕ} → left ≡ chain → Following mark chain before before [] left 0
-begins mark chain before is = record { whole = is; many = refl; same = refl; to-mark = rw is }
+    pub room : n < length (chain_at s b track)
+    room = omega (arith, rw is at g.many)
 
-module _ {mark : ℕ} {chain before marks passed left : List ℕ} {n : ℕ} (g : Following mark chain before marks passed left n) where
-  pub goes_on : {p : ℕ} {rest : List ℕ} → left ≡ p ∷ rest → Following mark chain before (set marks p mark) (passed ++ p ∷ []) rest (n + 1)
-  goes_on {p} {rest} is =
-      record {
-        whole = append_assoc passed (p ∷ []) rest ∙ rw (sym is) g.whole;
-        many = omega (arith, g.many, length-append passed (p ∷ []));
-        same = length-set marks p mark ∙ g.same;
-        to-mark = g.to-mark ∙ rw is;
-      }
+    pub goes_on : Following s b track before (set marks p (track + 1)) rest (n + 1)
+    goes_on =
+        record {
+          below = (rw is at g.below).1;
+          many = omega (arith, rw is at g.many);
+          to-mark = g.to-mark ∙ rw is;
+        }
 
-  pub one-inside : {p : ℕ} {rest : List ℕ} → left ≡ p ∷ rest → passed ++ p ∷ rest ≡ chain
-  one-inside is = rw (sym is) g.whole
-
-  pub room : {p : ℕ} {rest : List ℕ} → left ≡ p ∷ rest → n < length chain
-  room {p} {rest} is =
-      let sum : length (passed ++ p ∷ rest) ≡ length chain = rw (one-inside is) in
-      omega (arith, sum, length-append passed (p ∷ rest), g.many)
-
-  pub ends : left ≡ [] → (marks ≡ marked mark chain before) × (n ≡ length chain)
-  ends is =
-      let sum : length (passed ++ []) ≡ length chain = rw (sym is, g.whole) in
-      (sym (g.to-mark ∙ rw is), omega (arith, sum, length-append passed [], g.many))
+  pub ends : left ≡ [] → (marks ≡ marked (track + 1) (chain_at s b track) before) × (n ≡ length (chain_at s b track))
+  ends is = (sym (g.to-mark ∙ rw is), omega (arith, rw is at g.many))

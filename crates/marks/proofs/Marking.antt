@@ -21,7 +21,7 @@ use Rattle.marks.specs.Marks.{marked}
 use Rattle.marks.proofs.Each.{length-each, each_at, is-each}
 
 module _ (mark : ℕ) where
-  pub length_marked : (ps xs : List ℕ) → length (marked mark ps xs) ≡ length xs
+  length_marked : (ps xs : List ℕ) → length (marked mark ps xs) ≡ length xs
   length_marked [] xs = refl
   length_marked (p ∷ ps) xs = length_marked ps (set xs p mark) ∙ length-set xs p mark
 

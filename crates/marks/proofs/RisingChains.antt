@@ -1,32 +1,36 @@
--- One chain followed while its frames rise and its keys meet nothing: what was seen so far, and what the track then meets. Assumes nothing.
+-- The chains followed while frames rise and keys meet nothing: what was seen so far, and what the tracks then meet. Assumes nothing.
 use Prim.Native.Nat.{ℕ, ◌+◌, ◌<◌}
 use native.Mathlib.Omega.{arith}
-use mathlib.Core.Bool.{true, false}
+use mathlib.Core.Bool.{Bool, true, false}
 use mathlib.Core.List.{List, [], ◌∷◌, ◌++◌}
-use mathlib.Core.Option.{none, some}
-use mathlib.Core.Path.{◌≡◌, refl, sym, ap, ◌∙◌, subst}
+use mathlib.Core.Option.{none}
+use mathlib.Core.Path.{◌≡◌, refl, sym, ap, subst}
 use borrow.Author.Tests.{eq-eqb, ne_eqb}
 use lib.Dec.{eqb}
-use lib.ListN.{length, set, length-append}
+use lib.ListN.{length, set, replicate, length-append}
 use Rattle.layout.specs.Walk.{answered}
 use Rattle.clip.specs.First.{member}
-use Rattle.clip.specs.Scan.{record_of}
 use Rattle.clip.specs.Chain.{chain}
 use Rattle.clip.specs.Keys.{key_test}
 use Rattle.clip.specs.Build.{positions, chain_of, reached_before, records_refusal, track_refusal}
-use Rattle.clip.proofs.First.{true-or}
-use Rattle.clip.proofs.Indexed.{record_of-found}
+use Rattle.clip.proofs.First.{true-or, none_first}
 use Rattle.clip.proofs.Chained.{Linked}
-use Rattle.clip.proofs.Walked.{one_more, few, walk_ends}
+use Rattle.clip.proofs.Walked.{walk_ends}
 use Rattle.clip.proofs.Shared.{never-shared}
-use Rattle.chains.specs.Block.{kind_of, links}
-use Rattle.track_keys.specs.Keys.{key_meets}
+use Rattle.blocks.specs.Kind.{kind_of}
+use Rattle.blocks.specs.Block.{links}
+use Rattle.blocks.specs.declared.block.Block.{Block}
 use Rattle.chains.specs.Lookup.{Ordered}
-use Rattle.track_keys.specs.Tracks.{test_at}
-use Rattle.chains.specs.declared.block.Block.{Block}
+use Rattle.chains.specs.Chain.{chain_at}
+use Rattle.chains.specs.Step.{Reaches}
+use Rattle.chains.specs.declared.step.Step.{Step}
+use Rattle.chains.proofs.Stepping.{longer, room}
+use Rattle.track_keys.specs.Keys.{key_meets}
+use Rattle.track_keys.specs.Tracks.{test_at, meets, tracks_meet}
+use Rattle.track_keys.proofs.Meets.{track-more}
 use Rattle.marks.specs.Marks.{marked}
-use Rattle.marks.specs.Rising.{Behind, OneMarked}
-use Rattle.marks.proofs.Marking.{length_marked}
+use Rattle.marks.specs.Rising.{Behind, AllMarked}
+use Rattle.marks.proofs.Passing.{Passing, no-track, all-tracks, one-track}
 
 marked-snoc : (mark : ℕ) (ps : List ℕ) (p : ℕ) (xs : List ℕ) → marked mark (ps ++ p ∷ []) xs ≡ set (marked mark ps xs) p mark
 marked-snoc mark [] p xs = refl
@@ -62,55 +66,68 @@ module _ (s : List ℕ) (b : Block) (track : ℕ) where
       let rest = records-pass ps ((links s b).at p).frame to (((links s b).at p).frame ∷ before) f.2 (upto-more from p before f.0 u) (λ q inside. new q (true-or (eqb q p) (member q ps) inside)) in
       rw (first, unseen, f.1, rest)
 
+-- The tracks before one meet nothing, and their records are marked.
+pub record Tracking (s : List ℕ) (b : Block) (marks : List ℕ) (reached track : ℕ) (rising : Bool) : Type 0 where
+  pub before : tracks_meet s b track ≡ none
+  pub passing : Passing s b marks reached track
+  pub nothing : rising ≡ true
+
 -- The records so far, linked from the initial record on.
-pub record Seeing (s : List ℕ) (b : Block) (track : ℕ) (marks₀ marks : List ℕ) (expected link frame n : ℕ) : Type 0 where
+pub record Seeing (s : List ℕ) (b : Block) (track : ℕ) (marks₀ marks : List ℕ) (reached₀ reached expected link frame : ℕ) (rising : Bool) : Type 0 where
   pub seen : List ℕ
   pub linked : Linked (links s b) track ((links s b).initial track).next seen expected link
   pub fine : Fine s b track ((links s b).initial track).frame seen frame
-  pub many : length seen ≡ n
+  pub followed : reached ≡ reached₀ + length seen
   pub are : marks ≡ marked (track + 1) seen marks₀
+  pub nothing : rising ≡ true
 
-pub begins : (s : List ℕ) (b : Block) (track : ℕ) (marks : List ℕ) {link frame : ℕ} → link ≡ ((links s b).initial track).next → frame ≡ ((links s b).initial track).frame → Seeing s b track marks marks track link frame 0
-begins s b track marks il if = record { seen = []; linked = (refl, sym il); fine = sym if; many = refl; are = refl }
+pub begins : (s : List ℕ) (b : Block) (track : ℕ) (marks : List ℕ) (reached : ℕ) {expected link frame : ℕ} {rising : Bool} → expected ≡ track → link ≡ ((links s b).initial track).next → frame ≡ ((links s b).initial track).frame → rising ≡ true → Seeing s b track marks marks reached reached expected link frame rising
+begins s b track marks reached ie il if nothing = record { seen = []; linked = (sym ie, sym il); fine = sym if; followed = omega arith; are = refl; nothing = nothing }
 
-module _ {s : List ℕ} {b : Block} {slots : List ℕ} (ordered : Ordered s b slots) {track : ℕ} (is-track : track < b.initials.count) {marks₀ marks : List ℕ} {expected link frame n : ℕ} (g : Seeing s b track marks₀ marks expected link frame n) where
-  pub same_length : length marks ≡ length marks₀
-  same_length = ap length g.are ∙ length_marked (track + 1) g.seen marks₀
+pub tracking : (s : List ℕ) (b : Block) {marks : List ℕ} → marks ≡ replicate b.records.count 0 → Tracking s b marks 0 0 true
+tracking s b is = record { before = none_first 0 (meets s b) (λ t lt. absurd (omega arith)); passing = no-track is; nothing = refl }
 
-  module _ {p : ℕ} (at : some p ≡ record_of (links s b) link) where
-    pub inside : p < b.records.count
-    inside = (record_of-found (links s b) link p (sym at)).0
+pub all-rise : {s : List ℕ} {b : Block} {marks : List ℕ} {reached track : ℕ} {rising : Bool} → Tracking s b marks reached track rising → track ≡ b.initials.count → AllMarked s b marks reached
+all-rise {s} {b} t all =
+    let both = all-tracks t.passing all in
+    record { passes = subst (λ (k : ℕ). tracks_meet s b k ≡ none) all t.before; followed = both.1; marks = both.0 }
 
-    module _ (on : link ≡ 0 → ⊥) (h : Behind s b track p expected frame) where
-      extended : Linked (links s b) track ((links s b).initial track).next (g.seen ++ p ∷ []) link ((links s b).at p).next
-      extended = let is = record_of-found (links s b) link p (sym at) in one_more (links s b) g.seen track ((links s b).initial track).next expected link p g.linked on is.0 is.1 h.previous
+module _ {s : List ℕ} {b : Block} {slots : List ℕ} (ordered : Ordered s b slots) {track : ℕ} (is-track : track < b.initials.count) {marks₀ marks : List ℕ} {reached₀ reached expected link frame : ℕ} {rising : Bool} (g : Seeing s b track marks₀ marks reached₀ reached expected link frame rising) where
+  module _ {step : Step} (to : Reaches s b link step) (on : link ≡ 0 → ⊥) (h : Behind s b track step.position expected frame) where
+    pub few-seen : reached < reached₀ + b.records.count
+    few-seen = let less = room to ordered is-track g.seen g.linked on h.previous in omega (arith, less, g.followed)
 
-      pub room : n < b.records.count
-      room =
-          let most = few (links s b) ordered.indexed track is-track ((links s b).initial track).next (g.seen ++ p ∷ []) link ((links s b).at p).next extended in
-          omega (arith, most, length-append g.seen (p ∷ []), g.many)
+    pub goes_on : {later mark : ℕ} → later ≡ ((links s b).at step.position).frame → mark ≡ track + 1 → Seeing s b track marks₀ (set marks step.position mark) reached₀ (reached + 1) link step.next later rising
+    goes_on at-frame is-mark =
+        record {
+          seen = g.seen ++ step.position ∷ [];
+          linked = longer to ordered is-track g.seen g.linked on h.previous;
+          fine = rw at-frame (fine_more s b track g.seen ((links s b).initial track).frame frame step.position expected g.fine h);
+          followed = omega (arith, length-append g.seen (step.position ∷ []), g.followed);
+          are = rw (is-mark, g.are) (sym (marked-snoc (track + 1) g.seen step.position marks₀));
+          nothing = g.nothing;
+        }
 
-      pub goes_on : {next later : ℕ} → next ≡ ((links s b).at p).next → later ≡ ((links s b).at p).frame → Seeing s b track marks₀ (set marks p (track + 1)) link next later (n + 1)
-      goes_on to at-frame =
-          record {
-            seen = g.seen ++ p ∷ [];
-            linked = rw to extended;
-            fine = rw at-frame (fine_more s b track g.seen ((links s b).initial track).frame frame p expected g.fine h);
-            many = omega (arith, length-append g.seen (p ∷ []), g.many);
-            are = ap (λ (xs : List ℕ). set xs p (track + 1)) g.are ∙ sym (marked-snoc (track + 1) g.seen p marks₀);
-          }
+  module _ (initial : none ≡ key_meets s b.kind track ((links s b).initial track).frame ((links s b).initial track).body false) (zero_link : link ≡ 0) where
+    is-chain : chain (kind_of b.kind) (links s b) track ≡ answered g.seen
+    is-chain = walk_ends (kind_of b.kind) (links s b) ordered.indexed track is-track g.seen expected link g.linked zero_link
 
-  pub ends : none ≡ key_meets s b.kind track ((links s b).initial track).frame ((links s b).initial track).body false → link ≡ 0 → OneMarked s b track marks₀ marks n
-  unfolding chain_of track_refusal key_test member
-  ends initial zero_link =
-      let is : chain (kind_of b.kind) (links s b) track ≡ answered g.seen = walk_ends (kind_of b.kind) (links s b) ordered.indexed track is-track g.seen expected link g.linked zero_link in
-      let chain-is : chain_of (kind_of b.kind) (links s b) track ≡ g.seen = ap positions is in
-      let rest = records-pass s b track g.seen ((links s b).initial track).frame frame (((links s b).initial track).frame ∷ []) g.fine
-      (λ later less. rw (ne_eqb later ((links s b).initial track).frame (λ e. omega (arith, e, less))))
-      (λ p inside. never-shared (kind_of b.kind) (links s b) ordered.indexed track is-track p (subst (λ (ps : List ℕ). member p ps ≡ true) (sym chain-is) inside)) in
-      record {
-        passes = rw (chain-is, is, sym initial) rest;
-        ends = is ∙ ap answered (sym chain-is);
-        length = sym g.many ∙ ap length (sym chain-is);
-        marks = g.are ∙ ap (λ (ps : List ℕ). marked (track + 1) ps marks₀) (sym chain-is);
-      }
+    seen-all : g.seen ≡ chain_at s b track
+    unfolding chain_of
+    seen-all = sym (ap positions is-chain)
+
+    passes : meets s b track ≡ none
+    unfolding track_refusal key_test member
+    passes =
+        let rest = records-pass s b track g.seen ((links s b).initial track).frame frame (((links s b).initial track).frame ∷ []) g.fine
+        (λ later less. rw (ne_eqb later ((links s b).initial track).frame (λ e. omega (arith, e, less))))
+        (λ p inside. never-shared (kind_of b.kind) (links s b) ordered.indexed track is-track p (subst (λ (ps : List ℕ). member p ps ≡ true) seen-all inside)) in
+        rw (sym seen-all, is-chain, sym initial) rest
+
+    pub ends : {number : ℕ} → track ≡ number → {rising₀ : Bool} → Tracking s b marks₀ reached₀ number rising₀ → Tracking s b marks reached (number + 1) rising
+    ends is t =
+        record {
+          before = track-more s b _ t.before (rw (sym is) passes);
+          passing = one-track ordered t.passing (rw (sym is) is-track) (rw (sym is, sym seen-all) g.are) (rw (sym is, sym seen-all) g.followed);
+          nothing = g.nothing;
+        }

@@ -1,8 +1,9 @@
 -- The marks of one chain, and the counts of a build. Definitions only.
 use Rattle.std.specs.Prelude.{ℕ, List, [], ◌∷◌, set}
 use Rattle.clip.specs.Build as Build
-use Rattle.chains.specs.Block.{kind_of, links}
-use Rattle.chains.specs.declared.block.Block.{Block}
+use Rattle.blocks.specs.Kind.{kind_of}
+use Rattle.blocks.specs.Block.{links}
+use Rattle.blocks.specs.declared.block.Block.{Block}
 use Rattle.marks.specs.declared.counts.Counts.{Counts}
 
 -- A mark at the place of each record of a chain.

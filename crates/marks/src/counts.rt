@@ -3,11 +3,12 @@ ghost use Rattle.std.specs.Prelude.{◌≡◌, ◌<◌};
 ghost use Rattle.strip.specs.Work.{each, track_mark};
 ghost use Rattle.clip.specs.Scan.{Indexed};
 ghost use Rattle.clip.specs.Build.{both_links_zero, links_followed};
-ghost use Rattle.chains.specs.Block.{kind_of, links};
+ghost use Rattle.blocks.specs.Kind.{kind_of};
+ghost use Rattle.blocks.specs.Block.{links};
 ghost use Rattle.chains.specs.Walk.{AllEnd};
 ghost use Rattle.marks.specs.Marks.{counts_of};
 
-use chains::block::Records;
+use blocks::block::Records;
 
 #[derive(Clone, Copy, Debug, PartialEq, Eq)]
 pub struct Counts {

@@ -9,7 +9,7 @@ use Rattle.std.proofs.Common.{ltb, ltb-true, lt-ltb, ltb-false}
 use Rattle.std.proofs.lemmas.Grind.{get_or_default_zero}
 use Rattle.std.specs.List.Sorted.{IsPartitionedBy, IsPartitionPoint}
 use Rattle.order.specs.Field.{AllBelow}
-use Rattle.order.specs.Met.{Bounds}
+use Rattle.order.specs.Met.{FirstPlace}
 use Rattle.order.proofs.Times.{equal_or_not}
 
 module _ (v : ℕ → ℕ) (n number : ℕ) (xs : List ℕ) (below : AllBelow n xs) where
@@ -29,9 +29,8 @@ module _ (v : ℕ → ℕ) (n number : ℕ) (xs : List ℕ) (below : AllBelow n 
         let less = ltb-true _ _ (sym (is j d lt) ∙ e) in
         is i d (omega arith) ∙ lt-ltb _ _ (omega (arith, up, less)))
 
-    pub bounds : (k : ℕ) → k ≤ length xs → IsPartitionPoint (λ y. under y ≡ true) (λ y. under y ≡ false) xs k → Bounds (λ i. v (get_or xs i 0)) (length xs) number k k
-    bounds k most point = record {
-      ordered = omega arith;
+    pub first : (k : ℕ) → k ≤ length xs → IsPartitionPoint (λ y. under y ≡ true) (λ y. under y ≡ false) xs k → FirstPlace (λ i. v (get_or xs i 0)) (length xs) number k
+    first k most point = record {
       within = most;
       under = λ i lt. ltb-true _ _ (sym (is i 0 (omega arith)) ∙ point.0 i 0 (omega arith) lt);
       rest = λ i past lt. ltb-false _ _ (sym (is i 0 lt) ∙ point.1 i 0 past lt);

@@ -1,7 +1,5 @@
 pub mod ByKey
 pub mod AnyRepeat
-pub mod Between
-pub mod CloseNumbers
 pub mod Counted
 pub mod Equals
 pub mod FirstOfAll

@@ -4,4 +4,3 @@ pub mod Find
 pub mod Repeat
 pub mod Met
 pub mod Consecutive
-pub mod Close

@@ -5,12 +5,11 @@ use Rattle.order.specs.Field.{AllBelow}
 use Rattle.order.specs.Repeat.{number_at}
 use Rattle.order.specs.declared.field.Field.{Field}
 
--- Of n numbers, those before `low` are below the given one, and those from `high` on are not.
-pub record Bounds (v : ℕ → ℕ) (n number low high : ℕ) : Type 0 where
-  pub ordered : low ≤ high
-  pub within : high ≤ n
-  pub under : (i : ℕ) → i < low → v i < number
-  pub rest : (i : ℕ) → high ≤ i → i < n → number ≤ v i
+-- Of n numbers, those before place k are below the given one, and those from there on are not.
+pub record FirstPlace (v : ℕ → ℕ) (n number k : ℕ) : Type 0 where
+  pub within : k ≤ n
+  pub under : (i : ℕ) → i < k → v i < number
+  pub rest : (i : ℕ) → k ≤ i → i < n → number ≤ v i
 
 -- A number stands at places i and i + 1, and at none before them.
 pub record Twice (v : ℕ → ℕ) (n number i : ℕ) : Type 0 where

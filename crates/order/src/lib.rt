@@ -2,7 +2,6 @@
 // that stand twice. Each call takes about n log n steps at most, whatever the bytes are, and no memory of its own.
 #![tactic(auto)]
 
-mod close;
 mod consecutive;
 pub mod field;
 pub mod met;

@@ -1,5 +1,5 @@
-// Numbers met one after another. Among slots in order, a number that stands more than once is marked as met by its first two slots being
-// equal; a number that stands once needs no mark.
+// Runs only where a frame of a track is repeated, so that the section is refused. Numbers met one after another: among slots in order, a
+// number that stands more than once is marked as met by its first two slots being equal; a number that stands once needs no mark.
 ghost use Rattle.std.specs.Prelude.{length};
 ghost use Rattle.order.specs.Field.{AllBelow};
 ghost use Rattle.order.specs.Find.{NumbersRise};

@@ -1,7 +1,7 @@
 // The record of a number, among slots whose numbers do not fall.
 ghost use Rattle.std.specs.Prelude.{length};
 ghost use Rattle.order.specs.Find.{NumbersRise, Stands, Finds};
-ghost use Rattle.order.specs.Met.{Bounds};
+ghost use Rattle.order.specs.Met.{FirstPlace};
 ghost use Rattle.order.specs.Repeat.{number_at};
 
 use crate::slots::Slots;
@@ -34,7 +34,7 @@ impl Rising<'_, '_> {
     // How many slots have a number below the given one, which is the first place of that number, if it is there.
     // The slice's search asks for an answer of any u16; the slots hold positions of records, so the first test is always met.
     pub(crate) fn first_place(&self, number: u32) -> usize
-        ensures { Bounds (number_at self.now.slots.numbers.section.now self.now.slots.numbers.field self.now.slots.positions.now) (length self.now.slots.positions.now) number result result }
+        ensures { FirstPlace (number_at self.now.slots.numbers.section.now self.now.slots.numbers.field self.now.slots.positions.now) (length self.now.slots.positions.now) number result }
     {
         let numbers = self.slots.numbers;
         self.slots.positions.partition_point(|p| {
@@ -42,26 +42,18 @@ impl Rising<'_, '_> {
         })
     }
 
-    // By halves of its own, which ends where it meets the number: a search for the first place, by halves too, took a seventh more time where
-    // most numbers stand.
-    fn find_between(&self, number: u32) -> Option<usize>
+    // Runs only where indices have gaps, or a link leads to no record. Kept out of line: inlined in `find`, it makes the strips of files in
+    // MMD's own order, which never come here, take 7 to 24 per cent more instructions.
+    #[inline(never)]
+    fn find_by_halves(&self, number: u32) -> Option<usize>
         ensures { Finds self.now.slots.numbers.section.now self.now.slots.numbers.field self.now.slots.positions.now number result }
     {
-        let mut low = 0;
-        let mut high = self.slots.positions.len();
-        while low < high {
-            let middle = low + (high - low) / 2;
-            let here = self.slots.number_at(middle);
-            if here == number {
-                return Some(middle);
-            }
-            if here < number {
-                low = middle + 1;
-            } else {
-                high = middle;
-            }
+        let i = self.first_place(number);
+        if i < self.slots.positions.len() && self.slots.number_at(i) == number {
+            Some(i)
+        } else {
+            None
         }
-        None
     }
 
     pub fn find(&self, number: u32) -> Option<usize>
@@ -70,7 +62,7 @@ impl Rising<'_, '_> {
         // Tried by `or_else`: the check finds both arms alone; of the closure's answer it would need a proof by hand.
         match self.slots.find_consecutive(number) {
             Some(i) => Some(i),
-            None => self.find_between(number),
+            None => self.find_by_halves(number),
         }
     }
 }

@@ -1,9 +1,8 @@
 -- Document 01, "Records": "A base is frame, previous link, next link (i32 each); an additional record has its index (i32) before
 -- them, an initial record has none." Definitions only.
 use Rattle.std.specs.Prelude.{ℕ, ◌-◌, Bool, true, false, Option, Some, None}
-use Rattle.std.specs.Int.{w32}
 use Rattle.std.specs.Option.{option_map}
-use Rattle.std.proofs.Common.{to_z}
+use Rattle.layout.specs.Numbers.{signed}
 use Rattle.layout.specs.Walk.{Reader, ◌>>=◌, give, here, u32}
 use Rattle.records.specs.declared.base.BaseBits.{BaseBits}
 use Rattle.records.specs.declared.base.PmmDocumentBaseKeyframeSummary.{PmmDocumentBaseKeyframeSummary}
@@ -27,10 +26,10 @@ base_bits include_index = do
 unfoldable pub base_of : BaseBits → PmmDocumentBaseKeyframeSummary
 base_of b =
     record {
-      index = option_map (to_z w32) b.index;
-      frame_index = to_z w32 b.frame;
-      previous_keyframe_index = to_z w32 b.previous;
-      next_keyframe_index = to_z w32 b.next;
+      index = option_map signed b.index;
+      frame_index = signed b.frame;
+      previous_keyframe_index = signed b.previous;
+      next_keyframe_index = signed b.next;
     }
 
 -- Where a record and its payload, which follows the base, stand.

@@ -1,9 +1,10 @@
 -- Document 01, "Records": the fields of a bone, morph or model record, in file order, and their summaries. Definitions only.
 use Rattle.std.specs.Prelude.{ℕ, ◌-◌, Bool}
+use Rattle.layout.specs.Numbers.{float}
 use Rattle.layout.specs.Walk.{Reader, ◌>>=◌, ◌>>◌, give, here, bool, u32, block, times, items}
 use Rattle.layout.specs.Records.{constraint_state, pair}
 use Rattle.records.specs.Base.{base_bits, base_of, span_of}
-use Rattle.records.specs.Pose.{pose_bits, pose_of, float}
+use Rattle.records.specs.Pose.{pose_bits, pose_of}
 use Rattle.records.specs.declared.bone.BoneBits.{BoneBits}
 use Rattle.records.specs.declared.bone.PmmDocumentBoneKeyframeSummary.{PmmDocumentBoneKeyframeSummary}
 use Rattle.records.specs.declared.morph.MorphBits.{MorphBits}

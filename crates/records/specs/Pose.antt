@@ -1,7 +1,6 @@
 -- Document 01: "A pose is three translation floats and four orientation floats." Definitions only.
-use Rattle.std.specs.Prelude.{ℕ, Float, slice_index}
-use Rattle.std.specs.Float.Ieee.{of_bits}
-use Rattle.std.specs.Float.{binary32}
+use Rattle.std.specs.Prelude.{slice_index}
+use Rattle.layout.specs.Numbers.{float}
 use Rattle.layout.specs.Walk.{Reader, ◌>>=◌, give}
 use Rattle.binary.specs.Groups.{u32s}
 use Rattle.records.specs.declared.pose.PoseBits.{PoseBits}
@@ -12,9 +11,6 @@ pose_bits = do
   translation ← u32s 3
   orientation ← u32s 4
   give (record { translation = translation; orientation = orientation })
-
-abbrev pub float : ℕ → Float
-float bits = of_bits binary32 bits
 
 unfoldable pub pose_of : PoseBits → Pose
 pose_of b =

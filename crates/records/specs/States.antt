@@ -2,8 +2,7 @@
 -- morph (weight), 1 a constraint (bool), 16 an outside parent (four i32)". A morph's, a constraint's and an outside parent's state
 -- are read as they stand. Definitions only.
 use Rattle.std.specs.Prelude.{ℕ, List, slice_index}
-use Rattle.std.specs.Int.{w32}
-use Rattle.std.proofs.Common.{to_z}
+use Rattle.layout.specs.Numbers.{signed}
 use Rattle.layout.specs.Walk.{Reader, ◌>>=◌, give, bool}
 use Rattle.records.specs.Pose.{pose_bits, pose_of}
 use Rattle.records.specs.declared.states.BoneStateBits.{BoneStateBits}
@@ -24,8 +23,8 @@ bone_state_of b = record { pose = pose_of b.pose; dirty = b.dirty; physics_disab
 unfoldable pub parent_state_of : List ℕ → PmmDocumentOutsideParentStateSummary
 parent_state_of b =
     record {
-      parent_model_index = to_z w32 (slice_index b 0);
-      parent_model_bone_index = to_z w32 (slice_index b 1);
-      subject_bone_index = to_z w32 (slice_index b 2);
-      target_model_index = to_z w32 (slice_index b 3);
+      parent_model_index = signed (slice_index b 0);
+      parent_model_bone_index = signed (slice_index b 1);
+      subject_bone_index = signed (slice_index b 2);
+      target_model_index = signed (slice_index b 3);
     }

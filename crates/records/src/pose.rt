@@ -1,10 +1,11 @@
 // A pose is three translation floats and four orientation floats (document 01, "Forms by place in the code").
-ghost use Rattle.std.specs.Prelude.{◌≡◌};
+ghost use Rattle.std.specs.Prelude.{◌≡◌, ◌+◌, ◌≤◌, length};
+ghost use Rattle.layout.specs.Walk.{fine};
 ghost use Rattle.binary.specs.Answers.{read};
 ghost use Rattle.records.specs.Pose.{pose_bits, pose_of};
 
-use binary::groups;
 use binary::refusal::Read;
+use binary::{groups, numbers};
 use std::num;
 
 #[derive(Clone, Copy)]
@@ -22,6 +23,27 @@ pub struct Pose {
     pub orientation_y: f32,
     pub orientation_z: f32,
     pub orientation_w: f32,
+}
+
+// The bits of a pose that stands whole.
+#[tactic(auto, using(crate::proofs::PoseWhole::poses))]
+pub fn pose_at(s: &[u8], at: usize) -> PoseBits
+    requires { at + 28 ≤ length s.now }
+    ensures { fine result (at + 28) ≡ pose_bits s.now at }
+{
+    PoseBits {
+        translation: [
+            numbers::u32_at(s, at),
+            numbers::u32_at(s, at + 4),
+            numbers::u32_at(s, at + 8),
+        ],
+        orientation: [
+            numbers::u32_at(s, at + 12),
+            numbers::u32_at(s, at + 16),
+            numbers::u32_at(s, at + 20),
+            numbers::u32_at(s, at + 24),
+        ],
+    }
 }
 
 #[tactic(auto, unfolding(crate::specs::Pose::pose_bits))]

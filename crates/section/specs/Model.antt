@@ -1,9 +1,10 @@
 -- Document 01, "Model section": what stands in it, in order. Definitions only. An i32 or f32 is kept as its 32 bits.
 use Rattle.std.specs.Prelude.{ℕ, ◌*◌, cond, List, [], ltb, length}
+use Rattle.layout.specs.Refusals.{too_long}
 use Rattle.layout.specs.Walk.{Reader, ◌>>=◌, ◌>>◌, give, here, u8, bool, u32, block, string, times, items, count, unlimited, refused, refusal}
 use Rattle.layout.specs.Records.{initial, additional, bone, morph, model, bone_state, morph_state, constraint_state, parent_state}
 use Rattle.binary.specs.Groups.{u32s}
-use Rattle.section.specs.Limits.{Limits}
+use Rattle.section.specs.declared.limits.Limits.{Limits}
 use Rattle.section.specs.declared.opening.Opening.{Opening}
 use Rattle.section.specs.declared.names.Names.{Names}
 use Rattle.section.specs.declared.names.Counts.{Counts}
@@ -16,6 +17,9 @@ use Rattle.section.specs.declared.closing.Ending.{Ending}
 use Rattle.section.specs.declared.model.Front.{Front}
 use Rattle.section.specs.declared.model.Model.{Model}
 
+abbrev pub path_width : ℕ
+path_width = 256
+
 -- "model number u8; name and English name (length u8, then that many bytes); path, 256 bytes ..; one ignored byte"
 unfoldable pub opening : Reader Opening
 opening = do
@@ -25,7 +29,7 @@ opening = do
   english ← here
   string
   path ← here
-  block 256
+  block path_width
   u8
   give (record { document_model_index = index; name_offset = name; english_name_offset = english; path_offset = path })
 
@@ -132,4 +136,4 @@ model_parts limits = do
 
 -- The section. 16: more bytes are lent than the limit; tested first.
 unfoldable pub model_section : Limits → Reader Model
-model_section limits s start = cond (ltb limits.length (length s)) (refused (refusal 16 [])) (model_parts limits s start)
+model_section limits s start = cond (ltb limits.length (length s)) (refused (refusal too_long [])) (model_parts limits s start)

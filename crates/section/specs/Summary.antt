@@ -1,19 +1,12 @@
 -- Document 01, module 2: the Rust's summary of a model section, or the refusal. Definitions only.
-use Rattle.std.specs.Prelude.{ℕ, List, ℤ, map}
-use Rattle.std.specs.Float.Ieee.{of_bits}
-use Rattle.std.specs.Float.{binary32}
-use Rattle.std.specs.Int.{w32}
-use Rattle.std.proofs.Common.{to_z}
+use Rattle.std.specs.Prelude.{ℕ, List, map}
+use Rattle.layout.specs.Numbers.{signed, float}
 use Rattle.layout.specs.Walk.{fine, after, Answer, answer}
-use Rattle.section.specs.Limits.{Limits}
+use Rattle.section.specs.declared.limits.Limits.{Limits}
 use Rattle.section.specs.Model.{model_section}
 use Rattle.section.specs.declared.model.Model.{Model}
 use Rattle.section.specs.declared.summary.PmmDocumentModelSections.{PmmDocumentModelSections}
 use Rattle.section.specs.declared.summary.PmmDocumentModelSummary.{PmmDocumentModelSummary}
-
--- "i32 is signed": the number that 32 bits stand for.
-abbrev pub signed : ℕ → ℤ
-signed bits = to_z w32 bits
 
 unfoldable pub sections_of : Model → PmmDocumentModelSections
 sections_of m =
@@ -63,7 +56,7 @@ summary_of start m end =
       last_frame_index = signed m.front.scroll.last_frame;
       visible = m.front.view.visible;
       blend_enabled = m.ending.blend_enabled;
-      edge_width = of_bits binary32 m.ending.edge_width;
+      edge_width = float m.ending.edge_width;
       self_shadow_enabled = m.ending.self_shadow_enabled;
     }
 

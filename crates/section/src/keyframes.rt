@@ -5,8 +5,10 @@ ghost use Rattle.binary.specs.Items.{widths};
 ghost use Rattle.section.specs.Model.{keyframes, keyframe_blocks};
 ghost use Rattle.section.specs.Limits.{edition1};
 
+use crate::limits::EDITION_1;
 use crate::names::Counts;
 use binary::blocks::Items;
+use binary::counts::UNLIMITED;
 use binary::refusal::Read;
 use binary::{blocks, counts};
 use records::items;
@@ -55,15 +57,16 @@ pub fn read_keyframes(
 pub(crate) fn read_keyframe_blocks(s: &[u8], at: usize, counts: Counts) -> Read<KeyframeBlocks>
     ensures { read result ≡ keyframe_blocks edition1 counts s.now at }
 {
+    let limit = EDITION_1.additional;
     let (first, more) = (items::bone_items(2), items::bone_items(3));
-    let (bones, at) = read_keyframes(s, at, counts.bones.count, &first, &more, 65534)?;
+    let (bones, at) = read_keyframes(s, at, counts.bones.count, &first, &more, limit)?;
     let (first, more) = (items::morph_items(2), items::morph_items(3));
-    let (morphs, at) = read_keyframes(s, at, counts.morphs.count, &first, &more, 65534)?;
+    let (morphs, at) = read_keyframes(s, at, counts.morphs.count, &first, &more, limit)?;
     // A model has one track of its own.
     let (constraints, parents) = (counts.constraints, counts.parents);
     let first = items::model_items(2, constraints, parents);
     let more = items::model_items(3, constraints, parents);
-    let (models, next) = read_keyframes(s, at, 1, &first, &more, 2147483647)?;
+    let (models, next) = read_keyframes(s, at, 1, &first, &more, UNLIMITED)?;
     let blocks = KeyframeBlocks {
         bones,
         morphs,

@@ -5,6 +5,7 @@
 pub mod closing;
 pub mod display;
 pub mod keyframes;
+pub mod limits;
 pub mod model;
 pub mod names;
 pub mod opening;

@@ -7,6 +7,7 @@ ghost use Rattle.section.specs.Limits.{edition1};
 use crate::closing::{Ending, States};
 use crate::display::{Scroll, View};
 use crate::keyframes::KeyframeBlocks;
+use crate::limits::EDITION_1;
 use crate::names::Counts;
 use crate::opening::Opening;
 use crate::{closing, display, keyframes, names, opening};
@@ -67,7 +68,7 @@ fn read_parts(s: &[u8], at: usize) -> Read<Model>
 pub fn read_model(s: &[u8], start: usize) -> Read<Model>
     ensures { read result ≡ model_section edition1 s.now start }
 {
-    if 16777215 < s.len() {
+    if EDITION_1.length < s.len() {
         return Err(Refusal::TooLong);
     }
     read_parts(s, start)

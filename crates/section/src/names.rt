@@ -4,6 +4,8 @@ ghost use Rattle.binary.specs.Answers.{read};
 ghost use Rattle.section.specs.Model.{names, entries, counts};
 ghost use Rattle.section.specs.Limits.{edition1};
 
+use crate::limits::EDITION_1;
+use binary::counts::UNLIMITED;
 use binary::refusal::Read;
 use binary::{counts, numbers, strings};
 
@@ -35,7 +37,7 @@ pub fn read_names(s: &[u8], at: usize, limit: u32) -> Read<Names>
 pub fn read_entries(s: &[u8], at: usize) -> Read<u32>
     ensures { read result ≡ entries s.now at }
 {
-    let (count, body) = counts::read_count(s, at, 2147483647)?;
+    let (count, body) = counts::read_count(s, at, UNLIMITED)?;
     let next = numbers::skip(s, body, 4 * (count as usize))?;
     Ok((count, next))
 }
@@ -44,8 +46,8 @@ pub fn read_entries(s: &[u8], at: usize) -> Read<u32>
 pub fn read_counts(s: &[u8], at: usize) -> Read<Counts>
     ensures { read result ≡ counts edition1 s.now at }
 {
-    let (bones, at) = read_names(s, at, 65535)?;
-    let (morphs, at) = read_names(s, at, 65535)?;
+    let (bones, at) = read_names(s, at, EDITION_1.tracks)?;
+    let (morphs, at) = read_names(s, at, EDITION_1.tracks)?;
     let (constraints, at) = read_entries(s, at)?;
     let (parents, next) = read_entries(s, at)?;
     let counts = Counts {

@@ -6,6 +6,8 @@ ghost use Rattle.section.specs.Model.{opening};
 use binary::refusal::Read;
 use binary::{numbers, strings};
 
+pub const PATH_WIDTH: usize = 256;
+
 #[derive(Clone, Copy)]
 pub struct Opening {
     pub document_model_index: u8,
@@ -21,7 +23,7 @@ pub fn read_opening(s: &[u8], at: usize) -> Read<Opening>
     let (document_model_index, name_offset) = numbers::read_u8(s, at)?;
     let (_, english_name_offset) = strings::read_variable_string(s, name_offset)?;
     let (_, path_offset) = strings::read_variable_string(s, english_name_offset)?;
-    let ignored = numbers::skip(s, path_offset, 256)?;
+    let ignored = numbers::skip(s, path_offset, PATH_WIDTH)?;
     let (_, next) = numbers::read_u8(s, ignored)?;
     let opening = Opening {
         document_model_index,

@@ -1,9 +1,10 @@
 // The Rust's summary of a model section. Of its fields, `slot_index` and the asset reference are left out (document 01, module 2);
 // names, paths, records and states are answered by number elsewhere.
 ghost use Rattle.std.specs.Prelude.{◌≡◌, map};
+ghost use Rattle.layout.specs.Numbers.{signed};
 ghost use Rattle.binary.specs.Answers.{said};
 ghost use Rattle.section.specs.Limits.{edition1};
-ghost use Rattle.section.specs.Summary.{signed, sections_of, summary_of, model_summary};
+ghost use Rattle.section.specs.Summary.{sections_of, summary_of, model_summary};
 
 use crate::model;
 use crate::model::Model;

@@ -7,6 +7,7 @@ use mathlib.Core.List.{List, []}
 use mathlib.Core.Path.{◌≡◌, refl, sym, ap, ◌∙◌}
 use borrow.Author.Tests.{lt-ltb, le-ltb}
 use lib.ListN.{length}
+use Rattle.layout.specs.Refusals.{absent}
 use Rattle.layout.specs.Walk.{Refusal, refusal, Walk, fine, refused, Reader, after, answered, declined, answer, Answers, entry_of}
 use Rattle.layout.specs.Records.{size}
 use Rattle.layout.proofs.Blocks.{items-whole, times-whole}
@@ -33,7 +34,7 @@ module _ (s : List ℕ) (e : Listed) (stands : Stands s e) (k : ℕ) (there : k 
       let more = mul-le-mul_right {m = suc k} {n = e.count} (size e.widths) (omega (arith, there)) in
       walks-read r e.widths walks s (place_of e k) _ (items-whole e.widths s (place_of e k) (omega (arith, more, suc-mul k (size e.widths), stands)))
 
-pub entry_past : (s : List ℕ) (e : Listed) (k : ℕ) → e.count ≤ k → entry_at e k s ≡ refused (refusal 19 [])
+pub entry_past : (s : List ℕ) (e : Listed) (k : ℕ) → e.count ≤ k → entry_at e k s ≡ refused (refusal absent [])
 unfolding entry_at
 entry_past s e k past = rw (le-ltb k e.count past) refl
 
@@ -81,7 +82,7 @@ module _ {M : Type 0} (s : List ℕ) (e : Listed) (m : M) (found : ℕ → Walk 
   pub found-there : Stands s e → (k : ℕ) → k < e.count → found k ≡ fine m (place_of e k)
   found-there stands k there = finds k ∙ ap (λ (w : Walk (Unit {0})). after w (λ u at. fine m at)) (entry-there s e stands k there)
 
-  pub found-past : (k : ℕ) → e.count ≤ k → found k ≡ refused (refusal 19 [])
+  pub found-past : (k : ℕ) → e.count ≤ k → found k ≡ refused (refusal absent [])
   found-past k past = finds k ∙ ap (λ (w : Walk (Unit {0})). after w (λ u at. fine m at)) (entry_past s e k past)
 
   pub entries-told : Stands s e → {A B : Type 0} (bits : M → Reader A) (summary : M → ℕ → A → ℕ → B) → Walks (bits m) e.widths → Told e.count (λ k. entry_of (found k) bits summary s)

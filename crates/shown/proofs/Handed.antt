@@ -18,7 +18,7 @@ use Rattle.records.specs.declared.bone.PmmDocumentBoneKeyframeSummary.{PmmDocume
 use Rattle.records.specs.declared.morph.MorphBits.{MorphBits}
 use Rattle.records.specs.declared.model.ModelBits.{ModelBits}
 use Rattle.records.proofs.Table.{bones-walk, morphs-walk, models-walk}
-use Rattle.section.specs.Limits.{Limits}
+use Rattle.section.specs.declared.limits.Limits.{Limits}
 use Rattle.lists.specs.Lists.{locate}
 use Rattle.lists.specs.Keyframes.{bone_list, morph_list, model_list, bone_keyframe}
 use Rattle.lists.specs.Parts.{payload_or}

@@ -11,7 +11,7 @@ use Rattle.layout.proofs.Walks.{Walks, walks-bool, walks-u32}
 use Rattle.records.proofs.Table.{bones-walk, morphs-walk, models-walk, bone-states-walk, u32s-walks}
 use Rattle.records.specs.Keyframes.{model_bits}
 use Rattle.records.specs.declared.model.ModelBits.{ModelBits}
-use Rattle.section.specs.Limits.{Limits}
+use Rattle.section.specs.declared.limits.Limits.{Limits}
 use Rattle.section.specs.Model.{model_section}
 use Rattle.section.specs.Summary.{model_summary, summary_of}
 use Rattle.section.specs.declared.model.Model.{Model}

@@ -9,9 +9,9 @@ use lib.ListN.{length, take, drop, length-drop}
 use lib.Seq.{length-take-le}
 use Rattle.layout.specs.Walk.{Walk, fine, refused, Reader, ◌>>=◌, block, items, answered, entry_of}
 use Rattle.layout.specs.Records.{base, initial, additional, size}
-use Rattle.layout.proofs.Inversion.{came, same-value, item-fits}
+use Rattle.layout.proofs.Inversion.{came, item-fits}
 use Rattle.layout.proofs.Walks.{Walks, end as ended}
-use Rattle.records.specs.Base.{index_bits, base_bits, span_of}
+use Rattle.records.specs.Base.{base_bits, span_of}
 use Rattle.records.specs.declared.base.BaseBits.{BaseBits}
 use Rattle.records.specs.declared.base.Span.{Span}
 use Rattle.records.proofs.Facts.{payload-next}

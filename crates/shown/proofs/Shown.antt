@@ -4,6 +4,7 @@ use Prim.Native.Nat.{ℕ, ◌<◌}
 use mathlib.Core.Bool.{true, false}
 use mathlib.Core.List.{List as ListOf}
 use mathlib.Core.Path.{◌≡◌, refl, sym, ap, subst}
+use Rattle.layout.specs.Numbers.{signed}
 use Rattle.layout.specs.Walk.{fine, Reader, answered, bytes_at}
 use Rattle.records.specs.Base.{base_of, span_of}
 use Rattle.records.specs.Keyframes.{bone_of, morph_of}
@@ -13,13 +14,13 @@ use Rattle.std.specs.Option.{option_map}
 use Rattle.records.specs.declared.base.PmmDocumentBaseKeyframeSummary.{PmmDocumentBaseKeyframeSummary}
 use Rattle.records.specs.declared.bone.PmmDocumentBoneKeyframeSummary.{PmmDocumentBoneKeyframeSummary}
 use Rattle.records.specs.declared.morph.PmmDocumentMorphKeyframeSummary.{PmmDocumentMorphKeyframeSummary}
-use Rattle.section.specs.Limits.{Limits}
+use Rattle.section.specs.declared.limits.Limits.{Limits}
 use Rattle.section.specs.Model.{model_section}
 use Rattle.section.specs.declared.model.Model.{Model}
 use Rattle.lists.specs.Lists.{entries_of, locate, nth}
 use Rattle.lists.specs.Keyframes.{bone_keyframe, morph_keyframe}
 use Rattle.lists.specs.declared.lists.List.{List}
-use Rattle.clip.specs.Fields.{Initial, Additional, BoneBody, signed}
+use Rattle.clip.specs.Fields.{Initial, Additional, BoneBody}
 use Rattle.clip.specs.Keys.{posed, float_at}
 use Rattle.clip.specs.Section.{records_at, bones, morphs}
 use Rattle.clip.proofs.Facts.{Blocks, blocks}

@@ -8,11 +8,13 @@ use mathlib.Core.Path.{◌≡◌, refl, subst}
 use borrow.Author.Tests.{lt-ltb}
 use lib.Dec.{ltb}
 use lib.ListN.{length}
+use Rattle.layout.specs.Refusals.{too_long}
 use Rattle.layout.specs.Walk.{Refusal, Walk, fine, refused, refusal, Reader, after, block, unlimited, answered, declined, answer, entry_of}
 use Rattle.layout.specs.Records.{size, initial, additional}
 use Rattle.layout.proofs.Inversion.{came, same-value, item-fits}
 use Rattle.layout.proofs.Walks.{Walks}
-use Rattle.section.specs.Limits.{Limits, edition1}
+use Rattle.section.specs.declared.limits.Limits.{Limits}
+use Rattle.section.specs.Limits.{edition1}
 use Rattle.section.specs.Model.{keyframes}
 use Rattle.clip.proofs.Facts.{Block, block-is}
 use Rattle.tracks.specs.Track.{items_of, state_of, track_parts, track_section, track_of, track_summary, track_entries, locate}
@@ -36,7 +38,7 @@ stood : (limits : Limits) (kind : Kind) (s : List ℕ) (start : ℕ) (t : Track)
 unfolding track_section track_parts
 stood limits kind s start t end e = go (ltb limits.length (length s)) e
   where
-    go : (b : Bool) → cond b (refused (refusal 16 [])) (track_parts kind s start) ≡ fine t end → Stood kind s start t
+    go : (b : Bool) → cond b (refused (refusal too_long [])) (track_parts kind s start) ≡ fine t end → Stood kind s start t
     go true e = absurd (let z : ◌≡◌ {A = ℕ} 0 1 = cc in omega arith)
     go false e =
         let k = came (keyframes 1 (initial (items_of kind)) (additional (items_of kind)) unlimited s start) _ t end e in
@@ -105,6 +107,6 @@ light-declined limits s start why e =
     record { every = λ include_index k. declined-found _ _ _ s why (not_found limits Kind.Light s start why e include_index k) }
 
 -- Refusal 16, which no program of the tests can be lent enough bytes for.
-pub track-too-long : (kind : Kind) (s : List ℕ) (start : ℕ) → 16777215 < length s → track_summary edition1 kind s start ≡ declined (refusal 16 [])
+pub track-too-long : (kind : Kind) (s : List ℕ) (start : ℕ) → 16777215 < length s → track_summary edition1 kind s start ≡ declined (refusal too_long [])
 unfolding track_summary track_section
 track-too-long kind s start long = rw (lt-ltb 16777215 (length s) long)

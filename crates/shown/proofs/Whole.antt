@@ -4,9 +4,10 @@ use native.Mathlib.Omega.{arith}
 use mathlib.Core.List.{List as ListOf, []}
 use mathlib.Core.Path.{◌≡◌, ap, ◌∙◌}
 use lib.ListN.{length}
+use Rattle.layout.specs.Refusals.{absent}
 use Rattle.layout.specs.Walk.{Walk, fine, refused, refusal, Reader, after, times}
 use Rattle.layout.proofs.Inversion.{Reads, came}
-use Rattle.section.specs.Limits.{Limits}
+use Rattle.section.specs.declared.limits.Limits.{Limits}
 use Rattle.section.specs.declared.keyframes.Keyframes.{Keyframes}
 use Rattle.section.specs.declared.model.Model.{Model}
 use Rattle.lists.specs.Lists.{entries_of}
@@ -40,7 +41,7 @@ module _ (limits : Limits) (s : ListOf ℕ) (m : Model) (b : Blocks limits s m) 
 
 -- Of a list with so many entries: entry k, which is read if it is there.
 abbrev pub ByNumber : {A : Type 0} → ℕ → ℕ → Walk A → Type 0
-ByNumber count k w = (k < count → Reads w) × (count ≤ k → w ≡ refused (refusal 19 []))
+ByNumber count k w = (k < count → Reads w) × (count ≤ k → w ≡ refused (refusal absent []))
 
 -- Where n were read one behind the other, so was the one behind k of them.
 pub behind : {A : Type 0} (r : Reader A) (n k : ℕ) (s : ListOf ℕ) (at end : ℕ) → k < n → times n r s at ≡ fine tt end → Reads (after (times k r s at) (λ u to. r s to))

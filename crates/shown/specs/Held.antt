@@ -4,10 +4,10 @@ use Rattle.std.specs.Prelude.{ℕ, Bool, List, ◌≡◌, length, take}
 use Rattle.layout.specs.Walk.{Answer, answered}
 use Rattle.records.specs.declared.base.Span.{Span}
 use Rattle.records.specs.declared.bone.PmmDocumentBoneKeyframeSummary.{PmmDocumentBoneKeyframeSummary}
-use Rattle.section.specs.Limits.{Limits}
+use Rattle.section.specs.declared.limits.Limits.{Limits}
 use Rattle.lists.specs.Keyframes.{bone_keyframe, morph_keyframe, model_keyframe}
 use Rattle.lists.specs.Parts.{payload_or}
-use Rattle.tracks.specs.Camera.{camera_keyframe, curves_part}
+use Rattle.tracks.specs.Camera.{interpolation_width, camera_keyframe, curves_part}
 use Rattle.tracks.specs.Light.{light_keyframe}
 use Rattle.tracks.specs.declared.camera.CameraKeyframeSummary.{CameraKeyframeSummary}
 
@@ -22,4 +22,4 @@ pub record AllHeld (limits : Limits) (s : List ℕ) (start : ℕ) (include_index
   pub camera : Held s (λ b. b.span) (camera_keyframe limits include_index k s start)
   pub light : Held s (λ b. b.span) (light_keyframe limits include_index k s start)
   pub bone_curves : (b : PmmDocumentBoneKeyframeSummary) → bone_keyframe limits include_index k s start ≡ answered b → length (take 16 (payload_or (λ b. b.span) (bone_keyframe limits include_index k s start) s)) ≡ 16
-  pub camera_curves : (b : CameraKeyframeSummary) → camera_keyframe limits include_index k s start ≡ answered b → length (curves_part (camera_keyframe limits include_index k s start) s) ≡ 24
+  pub camera_curves : (b : CameraKeyframeSummary) → camera_keyframe limits include_index k s start ≡ answered b → length (curves_part (camera_keyframe limits include_index k s start) s) ≡ interpolation_width

@@ -3,8 +3,9 @@
 -- answered, and all others are 19. Of one whose summary is refused, every call is refused alike.
 -- Definitions only.
 use Rattle.std.specs.Prelude.{ℕ, ◌<◌, ◌≤◌, Bool, true, false, List, [], ◌≡◌}
+use Rattle.layout.specs.Refusals.{absent}
 use Rattle.layout.specs.Walk.{Refusal, refusal, Answer, declined, Answers}
-use Rattle.section.specs.Limits.{Limits}
+use Rattle.section.specs.declared.limits.Limits.{Limits}
 use Rattle.section.specs.declared.summary.PmmDocumentModelSummary.{PmmDocumentModelSummary}
 use Rattle.lists.specs.Keyframes.{bone_keyframe, morph_keyframe, model_keyframe}
 use Rattle.lists.specs.ModelLists.{model_keyframe_constraint_state, model_keyframe_outside_parent}
@@ -17,12 +18,12 @@ use Rattle.tracks.specs.declared.track.PmmDocumentTrackSummary.{PmmDocumentTrack
 -- A call by number, of a list with so many entries.
 pub record Told {A : Type 0} (count : ℕ) (call : ℕ → Answer A) : Type 0 where
   pub below : (k : ℕ) → k < count → Answers (call k)
-  pub past : (k : ℕ) → count ≤ k → call k ≡ declined (refusal 19 [])
+  pub past : (k : ℕ) → count ≤ k → call k ≡ declined (refusal absent [])
 
 -- A call by two numbers: of a record, and of one of its so many parts.
 pub record PartsTold {A : Type 0} (records count : ℕ) (call : ℕ → ℕ → Answer A) : Type 0 where
   pub below : (n : ℕ) → n < records → Told count (call n)
-  pub past : (n k : ℕ) → records ≤ n → call n k ≡ declined (refusal 19 [])
+  pub past : (n k : ℕ) → records ≤ n → call n k ≡ declined (refusal absent [])
 
 -- Camera or light records.
 pub record TrackTold {A : Type 0} (t : PmmDocumentTrackSummary) (call : Bool → ℕ → Answer A) : Type 0 where

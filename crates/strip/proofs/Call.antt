@@ -9,8 +9,9 @@ use lib.Dec.{ltb}
 use lib.IntN.{pos}
 use lib.ListN.{length, drop}
 use lib.Seq.{take-append_seam}
+use Rattle.layout.specs.Refusals.{work_too_short, output_too_short}
 use Rattle.layout.specs.Walk.{Refusal, refusal, Walk, fine, refused, answered}
-use Rattle.section.specs.Limits.{Limits}
+use Rattle.section.specs.declared.limits.Limits.{Limits}
 use Rattle.section.specs.Model.{model_section}
 use Rattle.section.specs.declared.model.Model.{Model}
 use Rattle.clip.specs.Section.{bones, morphs, clip_refusal, reached_records, loose_records}
@@ -50,7 +51,7 @@ module _ (limits : Limits) (width : ℕ) (x : Lent) where
     once = rw r.reads
 
     tells-written : (short : Bool) (n : ℕ) (strip : List ℕ) (b : Built) → clip_refusal x.section r.model ≡ none → strip ≡ strip_of width x.section r.model
-        → (o : Outcome) → o ≡ cond short (zeroed x.first x.second x.output n (refusal 18 (pos (length strip) ∷ []))) (record { answer = answered (record { length = length strip; reached = reached_records x.section r.model; loose = loose_records x.section r.model }); first = over (first_work x.section r.model) x.first; second = over (second_work x.section r.model) x.second; output = over strip x.output })
+        → (o : Outcome) → o ≡ cond short (zeroed x.first x.second x.output n (refusal output_too_short (pos (length strip) ∷ []))) (record { answer = answered (record { length = length strip; reached = reached_records x.section r.model; loose = loose_records x.section r.model }); first = over (first_work x.section r.model) x.first; second = over (second_work x.section r.model) x.second; output = over strip x.output })
         → o.answer ≡ answered b → Tells width x r.model o b
     tells-written true n strip b passes is o eo e = no_answer (sym (ap (λ (o : Outcome). o.answer) eo) ∙ e)
     tells-written false n strip b passes is o eo e =
@@ -64,7 +65,7 @@ module _ (limits : Limits) (width : ℕ) (x : Lent) where
     tells-built (some why) b is o eo e = no_answer (sym (ap (λ (o : Outcome). o.answer) eo) ∙ e)
     tells-built none b is o eo e = tells-written (ltb (length x.output) (length (strip_of width x.section r.model))) need (strip_of width x.section r.model) b is refl o eo e
 
-    tells-slices : (short : Bool) (b : Built) (o : Outcome) → o ≡ cond short (untouched x.first x.second x.output (refusal 17 (pos need ∷ []))) (built x.first x.second x.output width x.section r.model need (clip_refusal x.section r.model)) → o.answer ≡ answered b → Tells width x r.model o b
+    tells-slices : (short : Bool) (b : Built) (o : Outcome) → o ≡ cond short (untouched x.first x.second x.output (refusal work_too_short (pos need ∷ []))) (built x.first x.second x.output width x.section r.model need (clip_refusal x.section r.model)) → o.answer ≡ answered b → Tells width x r.model o b
     tells-slices true b o eo e = no_answer (sym (ap (λ (o : Outcome). o.answer) eo) ∙ e)
     tells-slices false b o eo e = tells-built (clip_refusal x.section r.model) b refl o eo e
 

@@ -5,7 +5,8 @@ use mathlib.Core.List.{List, [], ◌++◌, append_assoc, append-nil}
 use mathlib.Core.Logic.{◌↔◌}
 use mathlib.Core.Option.{none}
 use mathlib.Core.Path.{◌≡◌, sym, ◌∙◌, subst}
-use Rattle.section.specs.Limits.{Limits, edition1}
+use Rattle.section.specs.declared.limits.Limits.{Limits}
+use Rattle.section.specs.Limits.{edition1}
 use Rattle.section.specs.declared.model.Model.{Model}
 use Rattle.clip.specs.Fields.{bone, morph}
 use Rattle.clip.specs.Keys.{pose_asked, posed, weight_asked, float_at, bone_test, morph_test}

@@ -9,7 +9,7 @@ use mathlib.Core.Path.{◌≡◌, ap, ◌∙◌}
 use lib.ListN.{length, length-append, length-map}
 use Rattle.layout.specs.Walk.{fine}
 use Rattle.layout.specs.Records.{size}
-use Rattle.section.specs.Limits.{Limits}
+use Rattle.section.specs.declared.limits.Limits.{Limits}
 use Rattle.section.specs.Model.{model_section}
 use Rattle.section.specs.declared.model.Model.{Model}
 use Rattle.clip.specs.First.{total}

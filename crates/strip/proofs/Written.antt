@@ -8,11 +8,13 @@ use mathlib.Core.Path.{◌≡◌, refl}
 use borrow.Author.Tests.{leb-false}
 use lib.IntN.{pos}
 use lib.ListN.{length-map}
+use Rattle.layout.specs.Refusals.{negative_frame, repeated_frame}
+use Rattle.layout.specs.Numbers.{signed, least_negative, negative}
 use Rattle.layout.specs.Walk.{bytes_at}
-use Rattle.section.specs.Limits.{Limits}
+use Rattle.section.specs.declared.limits.Limits.{Limits}
 use Rattle.section.specs.declared.model.Model.{Model}
 use Rattle.clip.specs.First.{given, ◌or◌, member}
-use Rattle.clip.specs.Fields.{Records, Kind, bone, morph, refusal_of, signed, negative}
+use Rattle.clip.specs.Fields.{Records, Kind, bone, morph, refusal_of}
 use Rattle.clip.specs.Keys.{Key, key_test, body_refusal, pose_asked, posed, weight_asked, float_at}
 use Rattle.clip.specs.Build.{initial_key, record_key, chain_of, keys}
 use Rattle.clip.specs.Section.{bone_body, morph_body, initial_at, additional_at, records_at, bones, morphs}
@@ -40,10 +42,10 @@ module _ {B : Type 0} (kind : Kind) (asked : B → Option ℕ) where
   frame-fits : (t : ℕ) (before : List ℕ) (key : Key B) → key_test kind asked t before key ≡ none → key.frame < 4294967296
   unfolding key_test
   frame-fits t before key e =
-      let r10 = refusal_of kind 10 (pos t ∷ signed key.frame ∷ []) in
-      let r11 = refusal_of kind 11 (pos t ∷ signed key.frame ∷ []) in
+      let r10 = refusal_of kind negative_frame (pos t ∷ signed key.frame ∷ []) in
+      let r11 = refusal_of kind repeated_frame (pos t ∷ signed key.frame ∷ []) in
       let first = (or-none (given (negative key.frame) r10) (given (member key.frame before) r11 or body_refusal (asked key.body) t key.frame) e).0 in
-      let low = leb-false 2147483648 key.frame (given-none (negative key.frame) r10 first) in
+      let low = leb-false least_negative key.frame (given-none (negative key.frame) r10 first) in
       omega (arith, low)
 
   module _ (groups : List Group) (fields_of : B → List (List ℕ)) (r : Records B) where

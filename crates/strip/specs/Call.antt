@@ -1,8 +1,9 @@
 -- Document 01, "The strip" and "Turned down": the strip call, for every section, start and slices. Definitions only.
 use Rattle.std.specs.Prelude.{ℕ, ◌+◌, cond, ◌||◌, List, [], ◌∷◌, ◌++◌, ltb, pos, length, drop, replicate}
 use Rattle.std.proofs.Math.Option.{Option, none, some}
+use Rattle.layout.specs.Refusals.{work_too_short, output_too_short}
 use Rattle.layout.specs.Walk.{Refusal, refusal, Walk, fine, refused, Answer, answered, declined}
-use Rattle.section.specs.Limits.{Limits}
+use Rattle.section.specs.declared.limits.Limits.{Limits}
 use Rattle.section.specs.Model.{model_section}
 use Rattle.section.specs.declared.model.Model.{Model}
 use Rattle.clip.specs.Section.{bones, morphs, clip_refusal, reached_records, loose_records}
@@ -40,7 +41,7 @@ module _ (first second output : List ℕ) where
     -- "18 output shorter than the strip (the strip's length); tested last."
     abbrev pub written : ℕ → List ℕ → Outcome
     written need strip =
-        cond (ltb (length output) (length strip)) (zeroed need (refusal 18 (pos (length strip) ∷ [])))
+        cond (ltb (length output) (length strip)) (zeroed need (refusal output_too_short (pos (length strip) ∷ [])))
         (record {
           answer = answered (record { length = length strip; reached = reached_records s m; loose = loose_records s m });
           first = over (first_work s m) first;
@@ -56,7 +57,7 @@ module _ (first second output : List ℕ) where
     -- reading."
     abbrev pub slices_tested : ℕ → Outcome
     slices_tested need =
-        cond (ltb (length first) need || ltb (length second) need) (untouched (refusal 17 (pos need ∷ []))) (built need (clip_refusal s m))
+        cond (ltb (length first) need || ltb (length second) need) (untouched (refusal work_too_short (pos need ∷ []))) (built need (clip_refusal s m))
 
   abbrev pub once_read : ℕ → List ℕ → Walk Model → Outcome
   once_read width s (refused why) = untouched why

@@ -1,7 +1,7 @@
 -- Demand 3, word for word. Definitions only: what is to be proved, for the limits and the count's width of an edition; the proofs, for
 -- editions whose counts fit the width, are in proofs/Demand3.antt.
 use Rattle.std.specs.Prelude.{ℕ, ◌≡◌, ◌↔◌}
-use Rattle.section.specs.Limits.{Limits}
+use Rattle.section.specs.declared.limits.Limits.{Limits}
 use Rattle.clip.specs.Section.{bones, morphs}
 use Rattle.clip.specs.Matched.{Matched, UnpairedIdle}
 use Rattle.strip.specs.Runs.{Lent, Within, Accepted, strip_out, LongEnough, SameTracks}

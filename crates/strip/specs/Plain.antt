@@ -1,8 +1,8 @@
 -- Document 01, "The strip": the groups of fields that a map byte names, and when each is plain. Definitions only.
 use Rattle.std.specs.Prelude.{ℕ, ◌+◌, min, Bool, true, false, ◌&&◌, List, [], ◌∷◌, map, eqb, take, drop}
 use Rattle.std.specs.Float.Ieee.{eq}
+use Rattle.layout.specs.Numbers.{float}
 use Rattle.layout.specs.Walk.{u32_at}
-use Rattle.records.specs.Pose.{float}
 use Rattle.clip.specs.Fields.{BoneBody}
 
 -- "every component equals, as a float or byte, its plain value": of a float, by the bits of both.

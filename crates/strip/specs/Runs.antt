@@ -2,7 +2,7 @@
 use Rattle.std.specs.Prelude.{ℕ, ◌+◌, ◌≤◌, ◌<◌, List, ◌≡◌, length, take}
 use Rattle.std.proofs.Math.Option.{none}
 use Rattle.layout.specs.Walk.{fine, answered}
-use Rattle.section.specs.Limits.{Limits}
+use Rattle.section.specs.declared.limits.Limits.{Limits}
 use Rattle.section.specs.Model.{model_section}
 use Rattle.section.specs.declared.model.Model.{Model}
 use Rattle.clip.specs.Fields.{bone, morph}

@@ -21,13 +21,13 @@ use Rattle.clip.proofs.Facts.{blocks}
 use Rattle.strip.specs.Strip.{count_width}
 use Rattle.strip.specs.Call.{Outcome, untouched, built, slices_tested, strip_call}
 use Rattle.strip.proofs.Length.{no_longer}
-use Rattle.chains.specs.declared.block.Block.{Block}
+use Rattle.blocks.specs.declared.block.Block.{Block}
 use Rattle.strip_call.specs.Blocks.{bone_block, morph_block}
 use Rattle.strip_call.specs.Answers.{Says}
 use Rattle.strip_call.specs.Building.{kind_meets}
 use Rattle.strip_call.specs.Bytes.{strip_bytes}
 use Rattle.strip_call.specs.Outcomes.{outcome_of, parts_of, WasRead}
-use Rattle.chains.specs.Block.{Fits}
+use Rattle.blocks.specs.Block.{Fits}
 use Rattle.strip_call.specs.declared.answer.Built.{Built as Told}
 use Rattle.std.specs.Prelude.{Result, Err}
 use Rattle.strip_call.specs.declared.answer.StripRefusal.{StripRefusal}

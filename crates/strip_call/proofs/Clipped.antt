@@ -5,9 +5,10 @@ use mathlib.Core.List.{List}
 use mathlib.Core.Path.{◌≡◌}
 use Rattle.clip.proofs.Sound.{sound}
 use Rattle.clip.proofs.Reached.{reached-and-loose}
-use Rattle.chains.specs.Block.{kind_of, links}
+use Rattle.blocks.specs.Kind.{kind_of}
+use Rattle.blocks.specs.Block.{links}
 use Rattle.track_keys.specs.Tracks.{test_at}
-use Rattle.chains.specs.declared.block.Block.{Block}
+use Rattle.blocks.specs.declared.block.Block.{Block}
 use Rattle.strip_call.specs.Building.{Passed}
 use Rattle.strip_call.specs.Parts.{part, Outside}
 

@@ -11,16 +11,13 @@ use Rattle.layout.specs.Walk.{Answer, answered}
 use Rattle.keys.specs.Placed.{Wrote}
 use Rattle.keys.proofs.Placing.{placed_first}
 use Rattle.strip.specs.Call.{Built, over}
-use Rattle.chains.specs.declared.block.Block.{Block}
-use Rattle.chains.specs.declared.block.Records.{Records}
+use Rattle.blocks.specs.declared.block.Block.{Block}
 use Rattle.strip_call.specs.Parts.{part, Outside}
 use Rattle.strip_call.specs.Answers.{Says}
-use Rattle.std.specs.Prelude.{Result, Ok}
-use Rattle.strip_call.specs.Building.{ClipPassed, ClipBuilds}
-use Rattle.strip_call.specs.Outcomes.{outcome_of, parts_of, Strippable}
+use Rattle.std.specs.Prelude.{Ok}
+use Rattle.strip_call.specs.Building.{ClipPassed}
+use Rattle.strip_call.specs.Outcomes.{outcome_of, parts_of}
 use Rattle.strip_call.specs.Bytes.{strip_bytes}
-use Rattle.strip_call.specs.declared.answer.Counted.{Counted}
-use Rattle.strip_call.specs.declared.answer.StripRefusal.{StripRefusal}
 
 same_answer : (l l' r r' k k' : ℕ) → l ≡ l' → r ≡ r' → k ≡ k' → ◌≡◌ {A = Answer Built} (answered (record { length = l; reached = r; loose = k })) (answered (record { length = l'; reached = r'; loose = k' }))
 same_answer l l' r r' k k' el er ek = rw (el, er, ek)
@@ -35,17 +32,6 @@ both-over a n xs ys before after ex ey o room =
     let plain : 0 + (a + n) ≡ a + n = omega arith in
     let rest : drop (a + n) after ≡ drop (length (xs ++ ys)) before = sym (ap (λ (k : ℕ). drop k after) plain) ∙ o.back ∙ ap (λ (k : ℕ). drop k before) plain ∙ sym (ap (λ (k : ℕ). drop k before) size) in
     sym (take-append-drop (a + n) after) ∙ ap (λ (l : List ℕ). l ++ drop (a + n) after) whole ∙ ap (λ (l : List ℕ). xs ++ ys ++ l) rest
-
--- The build was run, and changed only its own places.
-pub record Ran (bones morphs : Records) (first second first₁ second₁ : List ℕ) (b : Result Counted StripRefusal) : Type 0 where
-  pub strippable : Strippable bones morphs first second
-  pub outside_first : Outside 0 (bones.block.records.count + morphs.block.records.count) first first₁
-  pub outside_second : Outside 0 (bones.block.records.count + morphs.block.records.count) second second₁
-  pub builds : ClipBuilds bones.section.now bones.block morphs.block first₁ second₁ b
-
-pub ran : {bones morphs : Records} {first second first₁ second₁ : List ℕ} (b : Result Counted StripRefusal) → Strippable bones morphs first second → Outside 0 (bones.block.records.count + morphs.block.records.count) first first₁ → Outside 0 (bones.block.records.count + morphs.block.records.count) second second₁ → ClipBuilds bones.section.now bones.block morphs.block first₁ second₁ b → Ran bones morphs first second first₁ second₁ b
-ran b strippable outside_first outside_second builds =
-    record { strippable = strippable; outside_first = outside_first; outside_second = outside_second; builds = builds }
 
 module _ (s : List ℕ) (bones morphs : Block) {first second first₁ second₁ : List ℕ} (o₁ : Outside 0 (bones.records.count + morphs.records.count) first first₁) (o₂ : Outside 0 (bones.records.count + morphs.records.count) second second₁) where
   module _ {reached left : ℕ} (passed : ClipPassed s bones morphs first₁ second₁ reached left) where

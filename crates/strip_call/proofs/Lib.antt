@@ -6,3 +6,4 @@ pub mod Same
 pub mod Ended
 pub mod Called
 pub mod TwoRuns
+pub mod Fixed

@@ -8,7 +8,7 @@ use Rattle.keys.specs.Placed.{placed, Room, Wrote}
 use Rattle.keys.proofs.Placing.{length-placed, room-front, room_back, wrote_then, number-wrote}
 use Rattle.strip.specs.Keys.{little_endian}
 use Rattle.strip.proofs.Bytes.{length-little_endian}
-use Rattle.chains.specs.declared.block.Block.{Block}
+use Rattle.blocks.specs.declared.block.Block.{Block}
 use Rattle.writing.specs.Tracks.{strip_tracks}
 use Rattle.strip_call.specs.Bytes.{strip_bytes}
 

@@ -19,7 +19,7 @@ use Rattle.strip.specs.Strip.{count_width, strip_of}
 use Rattle.strip.specs.Work.{first_work, second_work}
 use Rattle.strip.specs.Call.{built}
 use Rattle.strip.proofs.Bodies.{same-by_index, same-marks, same_bytes}
-use Rattle.chains.specs.Block.{Fits, links}
+use Rattle.blocks.specs.Block.{Fits, links}
 use Rattle.strip_call.specs.Blocks.{bone_block, morph_block}
 use Rattle.strip_call.specs.Building.{kind_meets}
 use Rattle.strip_call.specs.Outcomes.{outcome_by, outcome_of, parts_of}

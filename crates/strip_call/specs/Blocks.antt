@@ -4,8 +4,8 @@ use Rattle.layout.specs.Records.{size}
 use Rattle.layout.specs.Records as Table
 use Rattle.section.specs.declared.keyframes.Keyframes.{Keyframes}
 use Rattle.section.specs.declared.model.Model.{Model}
-use Rattle.chains.specs.declared.block.Block.{Block}
-use Rattle.chains.specs.declared.block.Kind.{Kind}
+use Rattle.blocks.specs.declared.block.Block.{Block}
+use Rattle.blocks.specs.declared.kind.Kind.{Kind}
 
 abbrev pub block_of : Kind → List ℕ → ℕ → Keyframes → Block
 block_of kind items tracks k =

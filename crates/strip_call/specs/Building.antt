@@ -5,18 +5,18 @@ use Rattle.layout.specs.Walk.{Refusal}
 use Rattle.clip.specs.First.{◌or◌}
 use Rattle.clip.specs.Build.{build_refusal, links_followed, loose}
 use Rattle.strip.specs.Work.{each, track_mark}
-use Rattle.chains.specs.Block.{kind_of, links}
-use Rattle.chains.specs.Fault.{fault_of}
+use Rattle.blocks.specs.Kind.{kind_of}
+use Rattle.blocks.specs.Block.{links}
+use Rattle.blocks.specs.Fault.{fault_of}
 use Rattle.chains.specs.Lookup.{Ordered}
 use Rattle.chains.specs.Walk.{AllEnd}
 use Rattle.track_keys.specs.Tracks.{test_at}
-use Rattle.chains.specs.declared.block.Block.{Block}
-use Rattle.chains.specs.declared.fault.Fault.{Fault}
+use Rattle.blocks.specs.declared.block.Block.{Block}
+use Rattle.blocks.specs.declared.fault.Fault.{Fault}
+use Rattle.blocks.specs.declared.kind.Kind.{Kind}
 use Rattle.marks.specs.declared.counts.Counts.{Counts}
 use Rattle.strip_call.specs.Parts.{part}
-use Rattle.strip_call.specs.Answers.{refusal_read}
 use Rattle.strip_call.specs.declared.answer.Counted.{Counted}
-use Rattle.strip_call.specs.declared.answer.StripRefusal.{StripRefusal}
 
 -- What a build of one kind meets.
 abbrev pub kind_meets : List ℕ → Block → Option Refusal
@@ -32,17 +32,12 @@ pub record Passed (s : List ℕ) (b : Block) (slots marks : List ℕ) (reached l
   pub unreached : loose_ones ≡ loose (kind_of b.kind) (links s b)
 
 abbrev pub Builds : List ℕ → Block → List ℕ → List ℕ → Result Counted Fault → Type 0
-Builds s b slots marks (Err fault) = kind_meets s b ≡ some (fault_of (kind_of b.kind) b.initials.count fault)
+Builds s b slots marks (Err fault) = kind_meets s b ≡ some (fault_of fault)
 Builds s b slots marks (Ok counted) = Passed s b slots marks counted.reached counted.loose
 
--- The same, told as the strip call tells it.
-abbrev pub PartBuilds : List ℕ → Block → List ℕ → List ℕ → Result Counted StripRefusal → Type 0
-PartBuilds s b slots marks (Err why) = kind_meets s b ≡ some (refusal_read why)
-PartBuilds s b slots marks (Ok counted) = Passed s b slots marks counted.reached counted.loose
-
 -- 15, or what an accepted build reports.
-abbrev pub reported : Counts → Result Counted Fault
-reported counts = cond (ltb 0 counts.disconnected) (Err (Fault.Disconnected counts.disconnected)) (Ok (record { reached = counts.reached; loose = counts.loose }))
+abbrev pub reported : Kind → Counts → Result Counted Fault
+reported kind counts = cond (ltb 0 counts.disconnected) (Err (Fault.Disconnected kind counts.disconnected)) (Ok (record { reached = counts.reached; loose = counts.loose }))
 
 -- The counts of both kinds, and the parts of the work slices that belong to each.
 pub record ClipPassed (s : List ℕ) (bones morphs : Block) (first second : List ℕ) (reached loose_ones : ℕ) : Type 0 where
@@ -55,6 +50,6 @@ pub record ClipPassed (s : List ℕ) (bones morphs : Block) (first second : List
   pub all_reached : reached ≡ bone_reached + morph_reached
   pub all_loose : loose_ones ≡ bone_loose + morph_loose
 
-abbrev pub ClipBuilds : List ℕ → Block → Block → List ℕ → List ℕ → Result Counted StripRefusal → Type 0
-ClipBuilds s bones morphs first second (Err why) = (kind_meets s bones or kind_meets s morphs) ≡ some (refusal_read why)
+abbrev pub ClipBuilds : List ℕ → Block → Block → List ℕ → List ℕ → Result Counted Fault → Type 0
+ClipBuilds s bones morphs first second (Err fault) = (kind_meets s bones or kind_meets s morphs) ≡ some (fault_of fault)
 ClipBuilds s bones morphs first second (Ok counted) = ClipPassed s bones morphs first second counted.reached counted.loose

@@ -1,7 +1,7 @@
 -- The strip's bytes, where bodies are known by their offsets. Definitions only.
 use Rattle.std.specs.Prelude.{ℕ, List, ◌++◌}
 use Rattle.strip.specs.Keys.{little_endian}
-use Rattle.chains.specs.declared.block.Block.{Block}
+use Rattle.blocks.specs.declared.block.Block.{Block}
 use Rattle.writing.specs.Tracks.{strip_tracks}
 
 unfoldable pub strip_bytes : List ℕ → Block → Block → List ℕ

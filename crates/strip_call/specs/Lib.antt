@@ -7,3 +7,4 @@ pub mod Clip
 pub mod Need
 pub mod Outcomes
 pub mod Demand3
+pub mod Fixed

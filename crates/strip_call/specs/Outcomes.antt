@@ -1,7 +1,8 @@
 -- The strip call's outcome told over the blocks' offsets, for the private functions: proofs/Same has it equal to that of the strip's
 -- definitions. Definitions only.
-use Rattle.std.specs.Prelude.{ℕ, ◌+◌, ◌≤◌, cond, List, [], ◌∷◌, ◌++◌, ◌≡◌, ltb, pos, length, Result, Ok, Err}
+use Rattle.std.specs.Prelude.{ℕ, ◌+◌, cond, List, [], ◌∷◌, ◌++◌, ◌≡◌, ltb, pos, length, Result, Ok, Err}
 use Rattle.std.proofs.Math.Option.{Option, none, some}
+use Rattle.layout.specs.Refusals.{output_too_short}
 use Rattle.layout.specs.Walk.{Refusal, refusal, answered, fine}
 use Rattle.section.specs.Limits.{edition1}
 use Rattle.section.specs.Model.{model_section}
@@ -10,9 +11,9 @@ use Rattle.clip.specs.First.{◌or◌}
 use Rattle.clip.specs.Build.{links_followed, loose}
 use Rattle.strip.specs.Work.{each, by_index, track_mark}
 use Rattle.strip.specs.Call.{Outcome, over, zeroed}
-use Rattle.chains.specs.Block.{kind_of, links}
-use Rattle.chains.specs.declared.block.Block.{Block}
-use Rattle.chains.specs.declared.block.Records.{Records}
+use Rattle.blocks.specs.Kind.{kind_of}
+use Rattle.blocks.specs.Block.{links}
+use Rattle.blocks.specs.declared.block.Block.{Block}
 use Rattle.strip_call.specs.Answers.{refusal_read, Says}
 use Rattle.strip_call.specs.Building.{kind_meets}
 use Rattle.strip_call.specs.Parts.{Outside}
@@ -20,7 +21,7 @@ use Rattle.strip_call.specs.Bytes.{strip_bytes}
 use Rattle.strip_call.specs.Need.{need_of}
 use Rattle.strip_call.specs.declared.answer.Built.{Built as Told}
 use Rattle.strip_call.specs.declared.answer.StripRefusal.{StripRefusal}
-use Rattle.strip_call.specs.declared.blocks.ModelRecords.{ModelRecords}
+use Rattle.strip_call.specs.declared.model_records.ModelRecords.{ModelRecords}
 
 -- What is met, the strip, reached and loose, and the contents of the work slices.
 pub record Parts : Type 0 where
@@ -34,7 +35,7 @@ pub record Parts : Type 0 where
 module _ (first second output : List ℕ) (need : ℕ) where
   abbrev pub finished : Parts → Outcome
   finished p =
-      cond (ltb (length output) (length p.strip)) (zeroed first second output need (refusal 18 (pos (length p.strip) ∷ [])))
+      cond (ltb (length output) (length p.strip)) (zeroed first second output need (refusal output_too_short (pos (length p.strip) ∷ [])))
       (record {
         answer = answered (record { length = length p.strip; reached = p.reached; loose = p.loose_ones });
         first = over p.first_work first;
@@ -59,15 +60,6 @@ parts_of s bones morphs =
       first_work = by_index (links s bones) bones.records.count ++ by_index (links s morphs) morphs.records.count;
       second_work = each bones.records.count (track_mark (kind_of bones.kind) (links s bones)) ++ each morphs.records.count (track_mark (kind_of morphs.kind) (links s morphs));
     }
-
--- The work slices are long enough, and a strip is no longer than the section.
-pub record Strippable (bones morphs : Records) (first second : List ℕ) : Type 0 where
-  pub one_section : morphs.section.now ≡ bones.section.now
-  pub first_room : bones.block.records.count + morphs.block.records.count ≤ length first
-  pub second_room : bones.block.records.count + morphs.block.records.count ≤ length second
-  pub short :
-      kind_meets bones.section.now bones.block ≡ none → kind_meets bones.section.now morphs.block ≡ none
-      → length (strip_bytes bones.section.now bones.block morphs.block) ≤ length bones.section.now
 
 -- How a build and its strip end: a refusal leaves only those places of the work slices changed.
 pub record BuildRefused (o : Outcome) (why : StripRefusal) (need : ℕ) (first second output first' second' output' : List ℕ) : Type 0 where

@@ -2,8 +2,7 @@
 ghost use Rattle.std.specs.Prelude.{◌≡◌};
 
 use binary::refusal::Refusal;
-use chains::block::Kind;
-use chains::fault::Fault;
+use blocks::fault::Fault;
 use std::error::Error;
 use std::fmt;
 
@@ -25,9 +24,10 @@ pub struct Built {
 #[derive(Clone, Copy, Debug, PartialEq, Eq)]
 pub enum StripRefusal {
     Reading(Refusal),
-    // A fault of a build, with its kind and the number of that kind's tracks.
-    Build(Kind, usize, Fault),
+    Build(Fault),
+    // How many places are needed.
     WorkTooShort(usize),
+    // The strip's length.
     OutputTooShort(usize),
 }
 
@@ -41,6 +41,16 @@ impl From<Refusal> for StripRefusal {
     }
 }
 
+impl From<Fault> for StripRefusal {
+    ghost use Rattle.strip_call.specs.declared.answer.StripRefusal.TheVariants.{Build};
+
+    ghost from_gives = { λ fault refusal. refusal ≡ Build fault };
+
+    fn from(fault: Fault) -> StripRefusal {
+        StripRefusal::Build(fault)
+    }
+}
+
 impl StripRefusal {
     ghost use Rattle.strip_call.specs.Answers.{refusal_read};
 
@@ -50,7 +60,7 @@ impl StripRefusal {
     {
         match self {
             StripRefusal::Reading(why) => why.number(),
-            StripRefusal::Build(_, _, fault) => fault.number(),
+            StripRefusal::Build(fault) => fault.number(),
             StripRefusal::WorkTooShort(_) => 17,
             StripRefusal::OutputTooShort(_) => 18,
         }
@@ -62,31 +72,7 @@ impl fmt::Display for StripRefusal {
     fn fmt<W: fmt::Write>(&self, f: &mut fmt::Formatter<W>) -> fmt::Result {
         match *self {
             StripRefusal::Reading(why) => write!(f, "{why}"),
-            StripRefusal::Build(_, count, fault) => {
-                write!(f, "{}: ", fault.number())?;
-                match fault {
-                    Fault::NegativeIndex(index) | Fault::RepeatedIndex(index) => write!(
-                        f,
-                        "{index}"
-                    ),
-                    Fault::IndexBelowCount(index) => write!(f, "{index} {count}"),
-                    Fault::Missing(track, link) | Fault::Cycle(track, link) => write!(
-                        f,
-                        "{track} {link}"
-                    ),
-                    Fault::Wrong(track, link, found, expected) => {
-                        write!(f, "{track} {link} {found} {expected}")
-                    }
-                    Fault::NegativeFrame(track, frame) | Fault::RepeatedFrame(track, frame) => {
-                        write!(f, "{track} {frame}")
-                    }
-                    Fault::Translation(bone, frame) | Fault::Orientation(bone, frame) => {
-                        write!(f, "{} {frame}", bone.0)
-                    }
-                    Fault::Weight(morph, frame) => write!(f, "{} {frame}", morph.0),
-                    Fault::Disconnected(records) => write!(f, "{records}"),
-                }
-            }
+            StripRefusal::Build(fault) => write!(f, "{fault}"),
             StripRefusal::WorkTooShort(places) | StripRefusal::OutputTooShort(places) => {
                 write!(f, "{}: {places}", self.number())
             }

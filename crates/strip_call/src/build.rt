@@ -3,13 +3,15 @@
 ghost use Rattle.std.proofs.Math.Option.{none};
 ghost use Rattle.std.specs.Prelude.{◌≡◌, length};
 ghost use Rattle.clip.specs.Scan.{scan};
-ghost use Rattle.chains.specs.Block.{kind_of, links};
+ghost use Rattle.blocks.specs.Kind.{kind_of};
+ghost use Rattle.blocks.specs.Block.{links};
 ghost use Rattle.strip_call.specs.Building.{Builds, reported};
 
 use crate::answer::Counted;
-use chains::block::Records;
+use blocks::block::Records;
+use blocks::fault::Fault;
+use blocks::kind::Kind;
 use chains::chain::Chains;
-use chains::fault::Fault;
 use chains::lookup::Indexed;
 use chains::scan;
 use marks::counts::Counts;
@@ -17,11 +19,11 @@ use marks::{counts, mark, rising};
 use track_keys::tracks;
 
 // 15, or what the build reports.
-fn report(counts: Counts) -> Result<Counted, Fault>
-    ensures { result ≡ reported counts }
+fn report(kind: Kind, counts: Counts) -> Result<Counted, Fault>
+    ensures { result ≡ reported kind counts }
 {
     if 0 < counts.disconnected {
-        return Err(Fault::Disconnected(counts.disconnected));
+        return Err(Fault::Disconnected(kind, counts.disconnected));
     }
     Ok(Counted {
         reached: counts.reached,
@@ -37,12 +39,13 @@ fn build_tracks(indexed: &Indexed, marks: &mut [u16]) -> Result<Counted, Fault>
     ensures builds { Builds indexed.now.records.section.now indexed.now.records.block indexed.now.slots.now marks.new result }
     ensures marks_len_unchanged { length marks.new ≡ length marks.old }
 {
+    let kind = indexed.records.block.kind;
     if let Some(reached) = rising::mark_rising(indexed, marks) {
-        return report(counts::count(&indexed.records, marks, reached));
+        return report(kind, counts::count(&indexed.records, marks, reached));
     }
     tracks::all_tracks(indexed, marks)?;
     let chains = Chains { indexed: *indexed };
-    report(mark::mark(&chains, marks))
+    report(kind, mark::mark(&chains, marks))
 }
 
 #[tactic(auto, using(crate::proofs::Built::kinds))]

@@ -9,10 +9,11 @@ ghost use Rattle.strip_call.specs.Need.{need_of};
 ghost use Rattle.strip_call.specs.Outcomes.{records_outcome, Leaves, WasRead};
 
 use crate::answer::{Built, StripRefusal};
-use crate::blocks::ModelRecords;
 use crate::clip_bytes::Clip;
-use crate::{blocks, clip_build};
-use chains::block::{Kind, Records};
+use crate::model_records::ModelRecords;
+use crate::{clip_build, model_records};
+use blocks::block::Records;
+use blocks::kind::Kind;
 use chains::chain::Chains;
 use chains::lookup::Indexed;
 use section::model;
@@ -47,8 +48,8 @@ fn build_and_write<'a>(
             },
         },
     };
-    if !clip.fits(output.len()) {
-        return Err(StripRefusal::OutputTooShort(clip.length()));
+    if let Some(length) = clip.too_long(output.len()) {
+        return Err(StripRefusal::OutputTooShort(length));
     }
     let length = clip.write(output);
     Ok(Built {
@@ -92,11 +93,11 @@ fn strip_model(
 {
     let bones = Records {
         section: s,
-        block: blocks::model_block(Kind::Bone, m),
+        block: model_records::model_block(Kind::Bone, m),
     };
     let morphs = Records {
         section: s,
-        block: blocks::model_block(Kind::Morph, m),
+        block: model_records::model_block(Kind::Morph, m),
     };
     let records = ModelRecords { bones, morphs };
     let need = records.need();

@@ -1,13 +1,14 @@
 // Document 01, module 5: all bones, then all morphs, in the parts of the work slices that belong to each kind.
 ghost use Rattle.std.specs.Prelude.{◌≡◌, ◌+◌, ◌≤◌, length};
-ghost use Rattle.strip_call.specs.Building.{PartBuilds, ClipBuilds};
+ghost use Rattle.strip_call.specs.Building.{Builds, ClipBuilds};
 ghost use Rattle.strip_call.specs.Need.{need_of};
 ghost use Rattle.strip_call.specs.Parts.{part, Outside};
 
-use crate::answer::{Counted, StripRefusal};
-use crate::blocks::ModelRecords;
+use crate::answer::Counted;
 use crate::build;
-use chains::block::Records;
+use crate::model_records::ModelRecords;
+use blocks::block::Records;
+use blocks::fault::Fault;
 
 // The build of one kind in the places from one on.
 fn build_part(
@@ -15,20 +16,15 @@ fn build_part(
     from: usize,
     first: &mut [u16],
     second: &mut [u16],
-) -> Result<Counted, StripRefusal>
+) -> Result<Counted, Fault>
     requires first_long_enough { from + records.now.block.records.count ≤ length first.old }
     requires second_long_enough { from + records.now.block.records.count ≤ length second.old }
-    ensures builds { PartBuilds records.now.section.now records.now.block (part from records.now.block.records.count first.new) (part from records.now.block.records.count second.new) result }
+    ensures builds { Builds records.now.section.now records.now.block (part from records.now.block.records.count first.new) (part from records.now.block.records.count second.new) result }
     ensures first_outside { Outside from records.now.block.records.count first.old first.new }
     ensures second_outside { Outside from records.now.block.records.count second.old second.new }
 {
-    let block = records.block;
-    let end = from + block.records.count;
-    // Tried by `map_err`: the check reads the two arms as they stand; of the closure it would need a proof by hand.
-    match build::build_kind(records, &mut first[from..end], &mut second[from..end]) {
-        Ok(counted) => Ok(counted),
-        Err(fault) => Err(StripRefusal::Build(block.kind, block.initials.count, fault)),
-    }
+    let end = from + records.block.records.count;
+    build::build_kind(records, &mut first[from..end], &mut second[from..end])
 }
 
 #[tactic(auto, using(crate::proofs::PartLaws::clip_parts))]
@@ -36,7 +32,7 @@ pub fn build_clip(
     records: &ModelRecords,
     first: &mut [u16],
     second: &mut [u16],
-) -> Result<Counted, StripRefusal>
+) -> Result<Counted, Fault>
     requires first_long_enough { need_of records.now ≤ length first.old }
     requires second_long_enough { need_of records.now ≤ length second.old }
     ensures builds { ClipBuilds records.now.bones.section.now records.now.bones.block records.now.morphs.block first.new second.new result }

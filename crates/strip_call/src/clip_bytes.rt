@@ -1,40 +1,43 @@
 // Document 01, module 6: the strip of a clip is measured, and then written.
 ghost use Rattle.std.specs.Prelude.{◌≡◌, ◌≤◌, length};
+ghost use Rattle.writing.specs.Chains.{FineTracks};
 ghost use Rattle.strip_call.specs.Bytes.{strip_bytes};
 
 use chains::chain::Chains;
 use keys::write;
 use writing::tracks;
 
-// The chains of both kinds of a section. No strip is longer than its section.
+// The chains of both kinds of a section, whose keys meet nothing. No strip is longer than its section.
 #[derive(Clone, Copy)]
 pub struct Clip<'a> {
     pub bones: Chains<'a>,
     pub morphs: Chains<'a>,
+    ghost fine_bones: { FineTracks bones },
+    ghost fine_morphs: { FineTracks morphs },
     ghost one_section: { morphs.indexed.records.section.now ≡ bones.indexed.records.section.now },
     ghost short: { length (strip_bytes bones.indexed.records.section.now bones.indexed.records.block morphs.indexed.records.block) ≤ length bones.indexed.records.section.now },
 }
 
 impl<'a> Clip<'a> {
-    ghost use Rattle.std.specs.Prelude.{leb};
     ghost use Rattle.keys.specs.Placed.{Room, Wrote};
-    ghost use Rattle.strip_call.specs.Clip.{bytes_of};
+    ghost use Rattle.strip_call.specs.Clip.{TooLong, bytes_of};
 
     #[tactic(auto, using(crate::proofs::Pieces::measured))]
-    pub fn length(&self) -> usize
+    fn length(&self) -> usize
         ensures { result ≡ length (bytes_of self.now) }
     {
         4 + tracks::tracks_length(&self.bones) + tracks::tracks_length(&self.morphs)
     }
 
-    // Whether so many bytes are enough. Where they are as many as the section has, nothing is measured.
-    pub fn fits(&self, bytes: usize) -> bool
-        ensures { result ≡ leb (length (bytes_of self.now)) bytes }
+    // The strip's length, if so many bytes are too few. Where they are as many as the section has, nothing is measured.
+    pub fn too_long(&self, bytes: usize) -> Option<usize>
+        ensures { TooLong (length (bytes_of self.now)) bytes result }
     {
         if self.bones.indexed.records.section.len() <= bytes {
-            return true;
+            return None;
         }
-        self.length() <= bytes
+        let length = self.length();
+        if length <= bytes { None } else { Some(length) }
     }
 
     #[tactic(auto, using(crate::proofs::Pieces::pieces))]

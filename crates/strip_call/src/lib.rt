@@ -3,8 +3,8 @@
 #![tactic(auto)]
 
 pub mod answer;
-mod blocks;
 mod build;
 pub mod call;
 mod clip_build;
 mod clip_bytes;
+mod model_records;

@@ -6,13 +6,11 @@ ghost use Rattle.strip.specs.Call.{strip_call};
 ghost use Rattle.strip_call.specs.Answers.{refusal_read};
 ghost use Rattle.strip_export.specs.Answers.{Refuses, Leaves};
 ghost use Rattle.binary.specs.Answers.{because};
-ghost use Rattle.chains.specs.Block.{kind_of};
-ghost use Rattle.chains.specs.Fault.{fault_of};
+ghost use Rattle.blocks.specs.Fault.{fault_of};
 
 use crate::values;
 use binary::refusal::Refusal;
-use chains::block::Kind;
-use chains::fault::Fault;
+use blocks::fault::Fault;
 use numbers::put;
 use strip_call::answer::StripRefusal;
 
@@ -22,10 +20,10 @@ fn not_read(numbers: &mut [u64], why: Refusal) -> u32
     numbers::refusals::refused(numbers, why)
 }
 
-fn not_built(numbers: &mut [u64], kind: Kind, count: usize, fault: Fault) -> u32
-    ensures { Refuses (fault_of (kind_of kind) count fault) numbers.old result numbers.new }
+fn not_built(numbers: &mut [u64], fault: Fault) -> u32
+    ensures { Refuses (fault_of fault) numbers.old result numbers.new }
 {
-    values::put_fault(numbers, kind, count, fault);
+    values::put_fault(numbers, fault);
     u32::from(fault.number())
 }
 
@@ -34,7 +32,7 @@ fn refused(numbers: &mut [u64], why: StripRefusal) -> u32
 {
     match why {
         StripRefusal::Reading(why) => not_read(numbers, why),
-        StripRefusal::Build(kind, count, fault) => not_built(numbers, kind, count, fault),
+        StripRefusal::Build(fault) => not_built(numbers, fault),
         StripRefusal::WorkTooShort(places) | StripRefusal::OutputTooShort(places) => {
             put::put(numbers, 0, &[places as u64]);
             u32::from(why.number())

@@ -12,9 +12,9 @@ use Rattle.order.specs.Sorted.{times, Sorted}
 use Rattle.order.specs.Repeat.{FirstRepeat, Repeats, number_at}
 use Rattle.order.specs.Met.{Meets}
 use Rattle.order.proofs.Meeting.{MetFirst, met-none, met-rise, met-more, met-before, met-never}
-use Rattle.chains.specs.Block.{links}
+use Rattle.blocks.specs.Block.{links}
 use Rattle.chains.specs.Chain.{chain_at, Ends}
-use Rattle.chains.specs.declared.block.Block.{Block}
+use Rattle.blocks.specs.declared.block.Block.{Block}
 use Rattle.chains.proofs.AlongChain.{chain-below}
 use Rattle.track_keys.specs.Frames.{frames_at}
 use Rattle.track_keys.proofs.ChainFrames.{frame_field, frame-field, frame_is, held-once}

@@ -5,29 +5,30 @@ use native.Mathlib.Omega.{arith}
 use mathlib.Core.Bool.{Bool, true}
 use mathlib.Core.List.{List, [], ◌∷◌}
 use mathlib.Core.Option.{Option, none, some}
-use mathlib.Core.Path.{◌≡◌, refl, sym, ◌∙◌, subst}
+use mathlib.Core.Path.{◌≡◌, refl, sym, ap, ◌∙◌, subst}
 use borrow.Author.Tests.{eq-eqb}
 use lib.Dec.{eqb}
 use lib.IntN.{pos}
 use lib.ListN.{length, get_or, take, drop_of_length-le}
 use lib.Seq.{length-take-le}
+use Rattle.layout.specs.Numbers.{signed, negative}
 use Rattle.layout.specs.Walk.{Refusal}
 use Rattle.clip.specs.First.{given, ◌or◌}
-use Rattle.clip.specs.Fields.{refusal_of, signed, negative}
+use Rattle.clip.specs.Fields.{refusal_of}
 use Rattle.clip.specs.Keys.{body_refusal}
 use Rattle.clip.specs.Build.{records_refusal}
 use Rattle.clip.proofs.First.{or-none, none_first}
 use Rattle.clip.proofs.Counting.{AllBelow}
 use Rattle.clip.proofs.Chained.{all-below}
 use Rattle.clip.proofs.Follow.{is-chain}
-use Rattle.chains.specs.Block.{kind_of, links}
+use Rattle.blocks.specs.Kind.{kind_of}
+use Rattle.blocks.specs.Block.{links}
 use Rattle.chains.specs.Lookup.{Ordered}
 use Rattle.track_keys.specs.Keys.{asked_at, key_meets}
 use Rattle.track_keys.specs.Tracks.{meets, tracks_meet, left}
-use Rattle.track_keys.specs.Ready.{Keyed, Readies}
-use Rattle.track_keys.specs.declared.ready.Keys.{Keys}
-use Rattle.chains.specs.declared.block.Block.{Block}
-use Rattle.chains.specs.declared.fault.Fault.{Fault}
+use Rattle.track_keys.specs.Ready.{Keyed}
+use Rattle.blocks.specs.declared.block.Block.{Block}
+use Rattle.blocks.specs.declared.fault.Fault.{Fault}
 use Rattle.std.proofs.Common.{Result, Ok}
 use Rattle.track_keys.proofs.Meets.{track-more, record-meets}
 
@@ -50,18 +51,7 @@ pub record Ready-track (s : List ℕ) (b : Block) (slots : List ℕ) (track : �
   pub room : b.records.count ≤ length list
   pub keys : Keyed s b track list n again
 
--- One that was made ready in a list that was long enough.
-pub ready-track : {s : List ℕ} {b : Block} {slots : List ℕ} {track : ℕ} (before list : List ℕ) {r : Result Keys Fault} {keys : Keys} → Ordered s b slots → track < b.initials.count → b.records.count ≤ length before → length list ≡ length before → Readies s b track list r → r ≡ Ok keys → Ready-track s b slots track list keys.records keys.again
-ready-track {s} {b} {slots} {track} before list ordered is-track wide same readies seen =
-    record { ordered = ordered; is-track = is-track; room = omega (arith, wide, same); keys = subst (λ (k : Result Keys Fault). Readies s b track list k) seen readies }
-
 module _ {s : List ℕ} {b : Block} {slots : List ℕ} {track : ℕ} {list : List ℕ} {n again : ℕ} (k : Ready-track s b slots track list n again) where
-  pub few-keys : n ≤ 65534
-  few-keys = omega (arith, k.keys.many, k.ordered.fits.few_records)
-
-  pub keys-inside : n ≤ length list
-  keys-inside = omega (arith, k.keys.many, k.room)
-
   listed-many : length (take n list) ≡ n
   listed-many = length-take-le n list (omega (arith, k.keys.many, k.room))
 
@@ -104,11 +94,11 @@ module _ {s : List ℕ} {b : Block} {slots : List ℕ} {track : ℕ} {list : Lis
             nothing = a.nothing;
           }
 
-  pub tracking-more : {list₀ list₁ : List ℕ} {i : ℕ} {met met₀ : Result (Unit {0}) Fault} → length (take n list) ≤ i → Asking s b track (take n list) again i met → Tracking s b list₀ list₁ met₀ track → length list ≡ length list₀ → Tracking s b list₀ list met (track + 1)
+  pub tracking-more : {number : ℕ} → track ≡ number → {list₀ list₁ : List ℕ} {i : ℕ} {met met₀ : Result (Unit {0}) Fault} → length (take n list) ≤ i → Asking s b track (take n list) again i met → Tracking s b list₀ list₁ met₀ number → length list ≡ length list₀ → Tracking s b list₀ list met (number + 1)
   unfolding records_refusal
-  tracking-more {i = i} all a t same =
+  tracking-more {number} is {i = i} all a t same =
       record {
-        before = track-more s b track t.before (a.so_far ∙ rw (drop_of_length-le (take n list) {i = i} all));
+        before = track-more s b number t.before (ap (meets s b) (sym is) ∙ a.so_far ∙ rw (drop_of_length-le (take n list) {i = i} all));
         same = same;
         nothing = a.nothing;
       }

@@ -17,11 +17,11 @@ use Rattle.order.proofs.Laws.{within_block}
 use Rattle.clip.specs.First.{member}
 use Rattle.clip.specs.Section.{additional_at}
 use Rattle.clip.proofs.Counting.{Distinct}
-use Rattle.chains.specs.Block.{Fits, links}
+use Rattle.blocks.specs.Block.{Fits, links}
 use Rattle.chains.specs.Chain.{chain_at, Ends}
 use Rattle.chains.proofs.AlongChain.{chain-below}
 use Rattle.track_keys.specs.Frames.{frames_at}
-use Rattle.chains.specs.declared.block.Block.{Block}
+use Rattle.blocks.specs.declared.block.Block.{Block}
 use Rattle.track_keys.proofs.FirstRepeats.{none-repeated}
 use Rattle.track_keys.proofs.Numbered.{Turn}
 use Rattle.track_keys.proofs.ListedChain.{chain-distinct}

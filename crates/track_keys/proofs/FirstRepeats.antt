@@ -2,10 +2,9 @@
 use Prim.Native.Nat.{ℕ, ◌+◌, ◌<◌}
 use native.Mathlib.Omega.{arith}
 use mathlib.Core.Bool.{false}
-use mathlib.Core.Path.{◌≡◌, sym, ap, ◌∙◌, subst}
+use mathlib.Core.Path.{◌≡◌, sym, ap, ◌∙◌}
 use Rattle.order.specs.Repeat.{FirstRepeat, Repeats}
 use Rattle.order.proofs.Times.{equal_or_not}
-use Rattle.track_keys.specs.Frames.{Rising}
 
 module _ (f : ℕ → ℕ) where
   pub none-repeated : (n : ℕ) → Repeats f n false → FirstRepeat f n n
@@ -28,14 +27,3 @@ module _ (f : ℕ → ℕ) where
         equal_or_not k (i + 1)
         (λ last. new j (omega (arith, last)) (same ∙ ap f last ∙ sym is))
         (λ before. apart j k lt (omega (arith, before)) same)
-
-  module _ (n : ℕ) where
-    pub rising-more : (r : ℕ) → Rising f n r → r < n → f r < f (r + 1) → Rising f n (r + 1)
-    rising-more r x inside up =
-        record {
-          most = omega arith;
-          rises = λ i j lt most.
-              equal_or_not j (r + 1)
-              (λ last. subst (λ k. f i < f k) (sym last) (equal_or_not i r (λ same. subst (λ k. f k < f (r + 1)) (sym same) up) (λ other. let before = x.rises i r (omega (arith, other)) (omega arith) in omega (arith, before, up))))
-              (λ other. x.rises i j lt (omega (arith, other)));
-        }

@@ -4,8 +4,8 @@ pub mod ListedChain
 pub mod Numbered
 pub mod ChainFrames
 pub mod Again
-pub mod CloseFrames
 pub mod Meets
 pub mod OneKey
 pub mod Readied
 pub mod Asking
+pub mod Accepted

@@ -10,10 +10,10 @@ use Rattle.layout.specs.Walk.{answered}
 use Rattle.clip.specs.Build.{positions, chain_of}
 use Rattle.clip.proofs.Counting.{Distinct, distinct-length}
 use Rattle.clip.proofs.Chained.{all-below, no-repeats}
-use Rattle.chains.specs.Block.{links}
+use Rattle.blocks.specs.Block.{links}
 use Rattle.chains.specs.Lookup.{Ordered}
 use Rattle.chains.specs.Chain.{chain_at, Ends}
-use Rattle.chains.specs.declared.block.Block.{Block}
+use Rattle.blocks.specs.declared.block.Block.{Block}
 use Rattle.chains.proofs.AlongChain.{chained}
 use Rattle.track_keys.specs.Tracks.{Listed}
 

@@ -15,12 +15,13 @@ use Rattle.clip.specs.Keys.{key_test}
 use Rattle.clip.specs.Build.{positions, chain_of, track_refusal}
 use Rattle.clip.proofs.First.{true-or, first-met, first_more}
 use Rattle.clip.proofs.Shared.{never-shared}
-use Rattle.chains.specs.Block.{kind_of, links}
+use Rattle.blocks.specs.Kind.{kind_of}
+use Rattle.blocks.specs.Block.{links}
 use Rattle.chains.specs.Lookup.{Ordered}
 use Rattle.track_keys.specs.Keys.{asked_at, key_meets}
 use Rattle.order.specs.Repeat.{FirstRepeat}
 use Rattle.track_keys.specs.Tracks.{meets, tracks_meet, Listed, frames_of, earlier, left}
-use Rattle.chains.specs.declared.block.Block.{Block}
+use Rattle.blocks.specs.declared.block.Block.{Block}
 use Rattle.track_keys.proofs.KeysAsked.{repeated-not, repeated-is, one}
 
 member-place : (ps : List ℕ) (i : ℕ) → i < length ps → member (get_or ps i 0) ps ≡ true

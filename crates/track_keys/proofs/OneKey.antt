@@ -6,15 +6,16 @@ use mathlib.Core.Option.{Option, none, some}
 use mathlib.Core.Path.{◌≡◌, refl, sym, ap, ◌∙◌}
 use lib.IntN.{pos}
 use lib.Ieee.{Float}
+use Rattle.layout.specs.Numbers.{signed, negative}
 use Rattle.layout.specs.Walk.{Refusal, Answer, answered, declined}
 use Rattle.clip.specs.First.{given, ◌or◌}
-use Rattle.clip.specs.Fields.{refusal_of, signed, negative}
+use Rattle.clip.specs.Fields.{refusal_of}
 use Rattle.clip.specs.Keys.{body_refusal, float_at}
 use Rattle.clip.specs.Section.{morph_body}
-use Rattle.chains.specs.Block.{kind_of}
+use Rattle.blocks.specs.Kind.{kind_of}
 use Rattle.track_keys.specs.Keys.{asked_at, frame_meets, key_meets}
 use Rattle.track_keys.specs.MorphKeys.{or_refused, morph_key}
-use Rattle.chains.specs.declared.block.Kind.{Kind}
+use Rattle.blocks.specs.declared.kind.Kind.{Kind}
 
 or_assoc : (a b c : Option Refusal) → ((a or b) or c) ≡ (a or (b or c))
 or_assoc none b c = refl

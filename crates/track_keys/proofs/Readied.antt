@@ -7,9 +7,9 @@ use mathlib.Core.Path.{◌≡◌, sym, ap, ◌∙◌, subst}
 use lib.ListN.{length, take, drop}
 use Rattle.layout.specs.Walk.{answered}
 use Rattle.order.specs.Repeat.{FirstRepeat}
-use Rattle.chains.specs.Block.{kind_of, links}
+use Rattle.blocks.specs.Block.{links}
 use Rattle.chains.specs.Lookup.{Ordered}
-use Rattle.chains.specs.Fault.{fault_of}
+use Rattle.blocks.specs.Fault.{fault_of}
 use Rattle.track_keys.specs.Keys.{key_meets}
 use Rattle.track_keys.specs.Tracks.{meets, Listed, frames_of}
 use Rattle.track_keys.specs.Frames.{frames_at}
@@ -17,8 +17,8 @@ use Rattle.std.proofs.lemmas.List.{take-append-drop}
 use Rattle.std.proofs.Common.{Result, Ok, Err, IsErr, IsErrAnd}
 use Rattle.track_keys.specs.Ready.{Keyed, Readies}
 use Rattle.track_keys.specs.declared.ready.Keys.{Keys}
-use Rattle.chains.specs.declared.block.Block.{Block}
-use Rattle.chains.specs.declared.fault.Fault.{Fault}
+use Rattle.blocks.specs.declared.block.Block.{Block}
+use Rattle.blocks.specs.declared.fault.Fault.{Fault}
 use Rattle.track_keys.proofs.ListedChain.{listed-is}
 use Rattle.track_keys.proofs.Meets.{initial-meets}
 
@@ -27,12 +27,12 @@ pub front-same : (list front : List ℕ) (n : ℕ) → front ≡ take n list →
 front-same list front n same = rw same (ap (take n) (take-append-drop n list))
 
 -- A refusal handed on.
-pub refused-on : (s : List ℕ) (b : Block) (track : ℕ) (list : List ℕ) (r : Result Keys Fault) (fault : Fault) → IsErr r × IsErrAnd r (λ e. e ≡ fault) → meets s b track ≡ some (fault_of (kind_of b.kind) b.initials.count fault) → Readies s b track list r
+pub refused-on : (s : List ℕ) (b : Block) (track : ℕ) (list : List ℕ) (r : Result Keys Fault) (fault : Fault) → IsErr r × IsErrAnd r (λ e. e ≡ fault) → meets s b track ≡ some (fault_of fault) → Readies s b track list r
 refused-on s b track list r fault handed is = go r handed
   where
     go : (r : Result Keys Fault) → IsErr r × IsErrAnd r (λ e. e ≡ fault) → Readies s b track list r
     go (Ok keys) h = absurd h.1
-    go (Err e) h = is ∙ ap (λ (f : Fault). some (fault_of (kind_of b.kind) b.initials.count f)) (sym h.1)
+    go (Err e) h = is ∙ ap (λ (f : Fault). some (fault_of f)) (sym h.1)
 
 module _ {s : List ℕ} {b : Block} {slots : List ℕ} (ordered : Ordered s b slots) (track : ℕ) (is-track : track < b.initials.count) (n : ℕ) (list list' : List ℕ) (listed : Listed s b track n list) (same : take n list' ≡ take n list) where
   listed-again : Listed s b track n list'
@@ -48,5 +48,5 @@ module _ {s : List ℕ} {b : Block} {slots : List ℕ} (ordered : Ordered s b sl
         so_far = initial-meets s b slots ordered track is-track n list' listed-again ∙ rw (sym fine);
       }
 
-  pub readied-refused : (fault : Fault) → some (fault_of (kind_of b.kind) b.initials.count fault) ≡ key_meets s b.kind track ((links s b).initial track).frame ((links s b).initial track).body false → meets s b track ≡ some (fault_of (kind_of b.kind) b.initials.count fault)
+  pub readied-refused : (fault : Fault) → some (fault_of fault) ≡ key_meets s b.kind track ((links s b).initial track).frame ((links s b).initial track).body false → meets s b track ≡ some (fault_of fault)
   readied-refused fault refused = initial-meets s b slots ordered track is-track n list' listed-again ∙ rw (sym refused)

@@ -3,4 +3,4 @@ pub mod MorphKeys
 pub mod Tracks
 pub mod Ready
 pub mod Frames
-pub mod Close
+pub mod Fine

@@ -2,18 +2,16 @@
 use Rattle.std.specs.Prelude.{ℕ, Bool, List, Float}
 use Rattle.std.proofs.Math.Option.{Option, none, some}
 use Rattle.layout.specs.Walk.{Refusal, Answer, answered, declined}
-use Rattle.clip.specs.Fields.{morph}
 use Rattle.clip.specs.Keys.{float_at}
 use Rattle.clip.specs.Section.{morph_body}
-use Rattle.chains.specs.Fault.{fault_of}
+use Rattle.blocks.specs.Fault.{fault_of}
 use Rattle.track_keys.specs.Keys.{key_meets}
-use Rattle.chains.specs.declared.block.Kind.{Kind}
+use Rattle.blocks.specs.declared.kind.Kind.{Kind}
 use Rattle.track_keys.specs.declared.key.MorphKey.{MorphKey}
 
--- For so many morphs.
-abbrev pub morph_key_read : ℕ → MorphKey → Answer (ℕ × Float)
-morph_key_read count (MorphKey.Key frame weight) = answered (frame, weight)
-morph_key_read count (MorphKey.Refused fault) = declined (fault_of morph count fault)
+abbrev pub morph_key_read : MorphKey → Answer (ℕ × Float)
+morph_key_read (MorphKey.Key frame weight) = answered (frame, weight)
+morph_key_read (MorphKey.Refused fault) = declined (fault_of fault)
 
 abbrev pub or_refused : {A : Type 0} → Option Refusal → A → Answer A
 or_refused none a = answered a

@@ -2,11 +2,11 @@
 use Rattle.std.specs.Prelude.{ℕ, ◌+◌, ◌≤◌, List, ◌≡◌, take, Result, Ok, Err}
 use Rattle.std.proofs.Math.Option.{some}
 use Rattle.order.specs.Repeat.{FirstRepeat}
-use Rattle.chains.specs.Block.{kind_of, links}
-use Rattle.chains.specs.Fault.{fault_of}
+use Rattle.blocks.specs.Block.{links}
+use Rattle.blocks.specs.Fault.{fault_of}
 use Rattle.track_keys.specs.Tracks.{meets, Listed, frames_of, left}
-use Rattle.chains.specs.declared.block.Block.{Block}
-use Rattle.chains.specs.declared.fault.Fault.{Fault}
+use Rattle.blocks.specs.declared.block.Block.{Block}
+use Rattle.blocks.specs.declared.fault.Fault.{Fault}
 use Rattle.track_keys.specs.declared.ready.Keys.{Keys}
 
 -- The chain's n records stand at the front of the list, `again` is the first key whose frame is repeated, and the initial record's key
@@ -19,4 +19,4 @@ pub record Keyed (s : List ℕ) (b : Block) (track : ℕ) (list : List ℕ) (n a
 
 abbrev pub Readies : List ℕ → Block → ℕ → List ℕ → Result Keys Fault → Type 0
 Readies s b track list (Ok keys) = Keyed s b track list keys.records keys.again
-Readies s b track list (Err fault) = meets s b track ≡ some (fault_of (kind_of b.kind) b.initials.count fault)
+Readies s b track list (Err fault) = meets s b track ≡ some (fault_of fault)

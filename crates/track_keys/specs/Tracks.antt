@@ -7,9 +7,10 @@ use Rattle.clip.specs.First.{first}
 use Rattle.clip.specs.Chain.{chain}
 use Rattle.clip.specs.Keys.{KeyTest, key_test}
 use Rattle.clip.specs.Build.{records_refusal, track_refusal}
-use Rattle.chains.specs.Block.{kind_of, links}
+use Rattle.blocks.specs.Kind.{kind_of}
+use Rattle.blocks.specs.Block.{links}
 use Rattle.track_keys.specs.Keys.{asked_at}
-use Rattle.chains.specs.declared.block.Block.{Block}
+use Rattle.blocks.specs.declared.block.Block.{Block}
 
 abbrev pub test_at : List ℕ → Block → KeyTest ℕ
 test_at s b = key_test (kind_of b.kind) (asked_at s b.kind)

@@ -1,10 +1,10 @@
-// 11: the first key of a track whose frame an earlier key has. Key 0 is the initial record's, key i + 1 that of the record listed at i.
+// Runs only where tracks are not as MMD writes them (marks, rising). 11: the first key of a track whose frame an earlier key has. Key 0 is the
+// initial record's, key i + 1 that of the record listed at i.
 ghost use Rattle.std.specs.Prelude.{◌≡◌, ◌+◌, length};
 ghost use Rattle.order.specs.Repeat.{FirstRepeat};
 ghost use Rattle.chains.specs.Positions.{records_of};
 ghost use Rattle.track_keys.specs.Frames.{chain_frames, Rising};
 
-use crate::close;
 use chains::chain::Chain;
 use order::field::{Field, Numbers};
 use order::{met, repeats};
@@ -70,20 +70,8 @@ fn met_again(chain: &Chain, list: &mut [u16]) -> usize
     list.len() + 1
 }
 
-// The first repeat, where the list holds the chain.
-fn in_any_order(chain: &Chain, list: &mut [u16]) -> usize
-    requires { list.old ≡ records_of chain.now }
-    ensures { FirstRepeat (chain_frames chain.now) (length list.old + 1) result }
-{
-    let span = close::key_span(chain, list);
-    if span.enough_flags(list.len()) {
-        return close::flagged_again(chain, span, list);
-    }
-    met_again(chain, list)
-}
-
-// The number of keys if no frame is repeated. Frames that rise cost one pass. Others that lie close together cost a flag for each key; any
-// others one sort of the list, and if one is repeated, a search in it for each key. Both lose the chain, which is listed again at the end.
+// The number of keys if no frame is repeated. Frames that rise cost one pass; any others one sort of the list, and if one is repeated, a
+// search in it for each key. The sort loses the chain, which is listed again at the end.
 pub fn first_repeated_frame(chain: &Chain, list: &mut [u16]) -> usize
     requires { list.old ≡ records_of chain.now }
     ensures first_repeat { FirstRepeat (chain_frames chain.now) (length list.old + 1) result }
@@ -93,7 +81,7 @@ pub fn first_repeated_frame(chain: &Chain, list: &mut [u16]) -> usize
     if apart == list.len() {
         return list.len() + 1;
     }
-    let again = in_any_order(chain, list);
+    let again = met_again(chain, list);
     list_again(chain, list);
     again
 }

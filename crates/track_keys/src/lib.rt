@@ -1,9 +1,7 @@
 // Document 01, module 5: the keys of each track in "Build order", 10 to 14. One piece of code serves bones and morphs.
 #![tactic(auto)]
 
-mod close;
 pub mod frames;
 pub mod key;
 pub mod ready;
-mod span;
 pub mod tracks;

@@ -1,14 +1,17 @@
-// A track before its records' keys are asked: its chain listed, its first repeated frame found, and its initial record's key asked.
-ghost use Rattle.std.specs.Prelude.{false, ◌≡◌, ◌<◌, ◌≤◌, length};
-ghost use Rattle.chains.specs.Block.{kind_of, links};
-ghost use Rattle.chains.specs.Fault.{met_read};
+// Runs, but for `initial_key`, only where tracks are not as MMD writes them (marks, rising). A track before its records' keys are asked: its
+// chain listed, its first repeated frame found, and its initial record's key asked.
+ghost use Rattle.std.specs.Prelude.{false, ◌≡◌, ◌≤◌, length};
+ghost use Rattle.blocks.specs.Track.{number_of_track};
+ghost use Rattle.blocks.specs.Block.{TrackOf, links};
+ghost use Rattle.blocks.specs.Fault.{met_read};
 ghost use Rattle.track_keys.specs.Keys.{key_meets};
 ghost use Rattle.track_keys.specs.Ready.{Readies};
 
 use crate::{frames, key};
-use chains::block::Records;
+use blocks::block::Records;
+use blocks::fault::Fault;
+use blocks::track::TrackIndex;
 use chains::chain::Chain;
-use chains::fault::Fault;
 use chains::lookup::Indexed;
 
 // How many records the chain has, and the number of the first key whose frame is repeated. No Option: where there is none, the number is
@@ -19,18 +22,17 @@ pub struct Keys {
     pub again: usize,
 }
 
-pub fn initial_key(records: &Records, track: usize) -> Result<(), Fault>
-    requires { track < records.now.block.initials.count }
-    ensures { met_read (kind_of records.now.block.kind) records.now.block.initials.count result ≡ key_meets records.now.section.now records.now.block.kind track ((links records.now.section.now records.now.block).initial track).frame ((links records.now.section.now records.now.block).initial track).body false }
+pub fn initial_key(records: &Records, track: TrackIndex) -> Result<(), Fault>
+    requires { TrackOf records.now.block track }
+    ensures { met_read result ≡ key_meets records.now.section.now records.now.block.kind (number_of_track track) ((links records.now.section.now records.now.block).initial (number_of_track track)).frame ((links records.now.section.now records.now.block).initial (number_of_track track)).body false }
 {
     key::key(&records.initial_key(track), track, false)
 }
 
-pub fn make_ready(indexed: &Indexed, track: usize, list: &mut [u16]) -> Result<Keys, Fault>
-    requires track_lt_count { track < indexed.now.records.block.initials.count }
+pub fn make_ready(indexed: &Indexed, track: TrackIndex, list: &mut [u16]) -> Result<Keys, Fault>
+    requires is_track { TrackOf indexed.now.records.block track }
     requires count_in_bounds { indexed.now.records.block.records.count ≤ length list.old }
-    ensures readies { Readies indexed.now.records.section.now indexed.now.records.block track list.new result }
-    ensures list_len_unchanged { length list.new ≡ length list.old }
+    ensures { Readies indexed.now.records.section.now indexed.now.records.block (number_of_track track) list.new result }
 {
     let records = indexed.walk(track, list)?;
     let chain = Chain {

@@ -1,16 +1,13 @@
 -- Document 01, "Records": camera records. Definitions only.
 use Rattle.std.specs.Prelude.{ℕ, ◌-◌, Bool, not, List, [], take, drop}
-use Rattle.std.specs.Float.Ieee.{of_bits}
-use Rattle.std.specs.Float.{binary32}
-use Rattle.std.specs.Int.{w32}
-use Rattle.std.proofs.Common.{to_z}
+use Rattle.layout.specs.Numbers.{signed, float}
 use Rattle.layout.specs.Walk.{Reader, ◌>>=◌, ◌>>◌, give, u32, bool, block, Answer, answered, declined, entry_of}
 use Rattle.layout.specs.Records.{camera, size}
 use Rattle.binary.specs.Groups.{u32s}
 use Rattle.records.specs.Base.{base_bits, base_of, span_of}
-use Rattle.section.specs.Limits.{Limits}
+use Rattle.section.specs.declared.limits.Limits.{Limits}
 use Rattle.tracks.specs.Track.{locate}
-use Rattle.tracks.specs.Vector.{vector_of}
+use Rattle.tracks.specs.Vector.{vector_width, vector_of}
 use Rattle.tracks.specs.declared.track.Kind.{Kind}
 use Rattle.tracks.specs.declared.camera.ViewBits.{ViewBits}
 use Rattle.tracks.specs.declared.camera.LensBits.{LensBits}
@@ -28,10 +25,13 @@ view_bits = do
   bone ← u32
   give (record { distance = distance; look_at = look; angle = angle; parent_model = model; parent_bone = bone })
 
+abbrev pub interpolation_width : ℕ
+interpolation_width = 24
+
 -- "interpolation 24 bytes, perspective byte, fov i32, selected bool"
 unfoldable pub lens_bits : Reader LensBits
 lens_bits = do
-  block 24
+  block interpolation_width
   perspective ← bool
   fov ← u32
   selected ← bool
@@ -53,13 +53,13 @@ offsets_of end =
     record {
       distance_offset = item_at 0 end;
       look_at_offset = item_at 1 end;
-      look_at_byte_length = 12;
+      look_at_byte_length = vector_width;
       angle_offset = item_at 4 end;
-      angle_byte_length = 12;
+      angle_byte_length = vector_width;
       parent_model_index_offset = item_at 7 end;
       parent_model_bone_index_offset = item_at 8 end;
       interpolation_offset = item_at 9 end;
-      interpolation_byte_length = 24;
+      interpolation_byte_length = interpolation_width;
       perspective_view_offset = item_at 10 end;
       fov_offset = item_at 11 end;
       selected_offset = item_at 12 end;
@@ -70,13 +70,13 @@ unfoldable pub camera_of : CameraBits → ℕ → ℕ → CameraKeyframeSummary
 camera_of b offset end =
     record {
       base = base_of b.base;
-      distance = of_bits binary32 b.view.distance;
+      distance = float b.view.distance;
       look_at = vector_of b.view.look_at;
       angle = vector_of b.view.angle;
-      parent_model_index = to_z w32 b.view.parent_model;
-      parent_model_bone_index = to_z w32 b.view.parent_bone;
+      parent_model_index = signed b.view.parent_model;
+      parent_model_bone_index = signed b.view.parent_bone;
       perspective_view = not b.lens.perspective_byte;
-      fov = to_z w32 b.lens.fov;
+      fov = signed b.lens.fov;
       selected = b.lens.selected;
       offsets = offsets_of end;
       span = span_of offset b.base.payload_offset end;
@@ -86,7 +86,7 @@ abbrev pub camera_keyframe : Limits → Bool → ℕ → List ℕ → ℕ → An
 camera_keyframe limits include_index k s start =
     entry_of (locate limits Kind.Camera include_index k s start) (λ t. camera_bits include_index) (λ t at b end. camera_of b at end) s
 
--- The interpolation's 24 bytes, or nothing.
+-- The interpolation's bytes, or nothing.
 abbrev pub curves_part : Answer CameraKeyframeSummary → List ℕ → List ℕ
-curves_part (answered b) s = take 24 (drop b.offsets.interpolation_offset s)
+curves_part (answered b) s = take interpolation_width (drop b.offsets.interpolation_offset s)
 curves_part (declined why) s = []

@@ -4,9 +4,9 @@ use Rattle.layout.specs.Walk.{Reader, ◌>>=◌, give, bool, Answer, entry_of}
 use Rattle.layout.specs.Records.{light, size}
 use Rattle.binary.specs.Groups.{u32s}
 use Rattle.records.specs.Base.{base_bits, base_of, span_of}
-use Rattle.section.specs.Limits.{Limits}
+use Rattle.section.specs.declared.limits.Limits.{Limits}
 use Rattle.tracks.specs.Track.{locate}
-use Rattle.tracks.specs.Vector.{vector_of}
+use Rattle.tracks.specs.Vector.{vector_width, vector_of}
 use Rattle.tracks.specs.declared.track.Kind.{Kind}
 use Rattle.tracks.specs.declared.light.LightBits.{LightBits}
 use Rattle.tracks.specs.declared.light.LightKeyframeSummary.{LightKeyframeSummary}
@@ -33,9 +33,9 @@ light_of b offset end =
       direction = vector_of b.direction;
       selected = b.selected;
       color_offset = item_at 0 end;
-      color_byte_length = 12;
+      color_byte_length = vector_width;
       direction_offset = item_at 3 end;
-      direction_byte_length = 12;
+      direction_byte_length = vector_width;
       selected_offset = item_at 6 end;
       span = span_of offset b.base.payload_offset end;
     }

@@ -1,9 +1,10 @@
 -- Document 01, "Camera section: initial record, count, additional records, 37 skipped bytes of state. Light section: the same with 24."
 -- Definitions only.
 use Rattle.std.specs.Prelude.{ℕ, Bool, cond, List, [], ltb, length}
+use Rattle.layout.specs.Refusals.{too_long}
 use Rattle.layout.specs.Walk.{Walk, fine, refused, refusal, Reader, ◌>>=◌, ◌>>◌, give, here, after, block, unlimited, Answer, answer}
 use Rattle.layout.specs.Records.{initial, additional, camera, light}
-use Rattle.section.specs.Limits.{Limits}
+use Rattle.section.specs.declared.limits.Limits.{Limits}
 use Rattle.section.specs.Model.{keyframes}
 use Rattle.lists.specs.Lists.{Listed, listed, entry_at}
 use Rattle.tracks.specs.declared.track.Kind.{Kind}
@@ -28,7 +29,7 @@ track_parts kind = do
 
 -- 16 is tested first.
 unfoldable pub track_section : Limits → Kind → Reader Track
-track_section limits kind s start = cond (ltb limits.length (length s)) (refused (refusal 16 [])) (track_parts kind s start)
+track_section limits kind s start = cond (ltb limits.length (length s)) (refused (refusal too_long [])) (track_parts kind s start)
 
 unfoldable pub track_of : ℕ → Track → ℕ → PmmDocumentTrackSummary
 track_of start t end =

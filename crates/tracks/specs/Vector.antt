@@ -1,7 +1,9 @@
 -- Three floats. Definitions only.
 use Rattle.std.specs.Prelude.{ℕ, List, Float, map}
-use Rattle.std.specs.Float.Ieee.{of_bits}
-use Rattle.std.specs.Float.{binary32}
+use Rattle.layout.specs.Numbers.{float}
+
+abbrev pub vector_width : ℕ
+vector_width = 12
 
 abbrev pub vector_of : List ℕ → List Float
-vector_of bits = map (of_bits binary32) bits
+vector_of bits = map float bits

@@ -5,6 +5,7 @@ ghost use Rattle.section.specs.Limits.{edition1};
 ghost use Rattle.tracks.specs.Camera.{view_bits, lens_bits, camera_bits, offsets_of, camera_of, camera_keyframe, curves_part};
 
 use crate::track::Kind;
+use crate::vector::VECTOR_WIDTH;
 use crate::{track, vector};
 use binary::refusal::{Read, Refusal};
 use binary::{groups, numbers};
@@ -13,6 +14,8 @@ use lists::parts;
 use records::base;
 use records::base::{BaseBits, PmmDocumentBaseKeyframeSummary, Span};
 use std::num;
+
+const INTERPOLATION_WIDTH: usize = 24;
 
 #[derive(Clone, Copy)]
 pub struct ViewBits {
@@ -55,7 +58,7 @@ pub struct CameraOffsets {
     pub selected_offset: usize,
 }
 
-// The interpolation's 24 bytes are handed back as a part.
+// The interpolation's bytes are handed back as a part.
 #[derive(Clone, Copy)]
 pub struct CameraKeyframeSummary {
     pub base: PmmDocumentBaseKeyframeSummary,
@@ -94,7 +97,7 @@ fn read_view(s: &[u8], at: usize) -> Read<ViewBits>
 fn read_lens(s: &[u8], at: usize) -> Read<LensBits>
     ensures { read result ≡ lens_bits s.now at }
 {
-    let at = numbers::skip(s, at, 24)?;
+    let at = numbers::skip(s, at, INTERPOLATION_WIDTH)?;
     let (perspective_byte, at) = numbers::read_bool(s, at)?;
     let (fov, at) = numbers::read_u32_le(s, at)?;
     let (selected, next) = numbers::read_bool(s, at)?;
@@ -125,13 +128,13 @@ impl CameraOffsets {
         CameraOffsets {
             distance_offset: end.saturating_sub(66),
             look_at_offset: end.saturating_sub(62),
-            look_at_byte_length: 12,
+            look_at_byte_length: VECTOR_WIDTH,
             angle_offset: end.saturating_sub(50),
-            angle_byte_length: 12,
+            angle_byte_length: VECTOR_WIDTH,
             parent_model_index_offset: end.saturating_sub(38),
             parent_model_bone_index_offset: end.saturating_sub(34),
             interpolation_offset: end.saturating_sub(30),
-            interpolation_byte_length: 24,
+            interpolation_byte_length: INTERPOLATION_WIDTH,
             perspective_view_offset: end.saturating_sub(6),
             fov_offset: end.saturating_sub(5),
             selected_offset: end.saturating_sub(1),
@@ -184,7 +187,7 @@ impl Keyframe for CameraKeyframeSummary {
     }
 }
 
-// The interpolation's 24 bytes; empty where the record's own call with the same inputs refuses.
+// The interpolation's bytes; empty where the record's own call with the same inputs refuses.
 pub fn camera_interpolation(
     section: &[u8],
     start: usize,
@@ -194,7 +197,7 @@ pub fn camera_interpolation(
     ensures { result.now ≡ curves_part (camera_keyframe edition1 include_index number section.now start) section.now }
 {
     match CameraKeyframeSummary::read(section, start, include_index, number) {
-        Ok(c) => parts::part(section, c.offsets.interpolation_offset, 24),
+        Ok(c) => parts::part(section, c.offsets.interpolation_offset, INTERPOLATION_WIDTH),
         Err(_) => &[],
     }
 }

@@ -4,6 +4,7 @@ ghost use Rattle.binary.specs.Answers.{read};
 ghost use Rattle.tracks.specs.Light.{light_bits, light_of, light_keyframe};
 
 use crate::track::Kind;
+use crate::vector::VECTOR_WIDTH;
 use crate::{track, vector};
 use binary::refusal::{Read, Refusal};
 use binary::{groups, numbers};
@@ -61,9 +62,9 @@ impl LightBits {
             direction: vector::vector_of(self.direction),
             selected: self.selected,
             color_offset: end.saturating_sub(25),
-            color_byte_length: 12,
+            color_byte_length: VECTOR_WIDTH,
             direction_offset: end.saturating_sub(13),
-            direction_byte_length: 12,
+            direction_byte_length: VECTOR_WIDTH,
             selected_offset: end.saturating_sub(1),
             span: Span::new(offset, self.base.payload_offset, end),
         }

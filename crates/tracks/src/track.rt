@@ -10,11 +10,13 @@ ghost use Rattle.tracks.specs.Track.{items_of, state_of, track_parts, track_sect
 ghost use Rattle.tracks.specs.declared.track.Kind.{Kind};
 
 use crate::items;
+use binary::counts::UNLIMITED;
 use binary::numbers;
 use binary::refusal::{Read, Refusal};
 use lists::lists::Entries;
 use section::keyframes;
 use section::keyframes::Keyframes;
+use section::limits::EDITION_1;
 
 #[derive(Clone, Copy)]
 pub enum Kind {
@@ -56,7 +58,7 @@ fn read_records(s: &[u8], at: usize, kind: Kind) -> Read<Keyframes>
 {
     let initial_items = items::record_items(kind, 2);
     let additional_items = items::record_items(kind, 3);
-    keyframes::read_keyframes(s, at, 1, &initial_items, &additional_items, 2147483647)
+    keyframes::read_keyframes(s, at, 1, &initial_items, &additional_items, UNLIMITED)
 }
 
 #[tactic(auto, unfolding(crate::specs::Track::track_parts))]
@@ -76,7 +78,7 @@ fn read_parts(s: &[u8], start: usize, kind: Kind) -> Read<Track>
 pub fn read_track(s: &[u8], start: usize, kind: Kind) -> Read<Track>
     ensures { read result ≡ track_section edition1 kind s.now start }
 {
-    if 16777215 < s.len() {
+    if EDITION_1.length < s.len() {
         return Err(Refusal::TooLong);
     }
     read_parts(s, start, kind)

@@ -4,6 +4,8 @@ ghost use Rattle.tracks.specs.Vector.{vector_of};
 
 use std::num;
 
+pub const VECTOR_WIDTH: usize = 12;
+
 pub fn vector_of(bits: [u32; 3]) -> [f32; 3]
     ensures { result ≡ vector_of bits }
 {

@@ -4,17 +4,23 @@ use native.Mathlib.Omega.{arith}
 use mathlib.Core.Bool.{Bool, true, false, cond}
 use mathlib.Core.List.{List, [], ◌∷◌}
 use mathlib.Core.Path.{◌≡◌, refl, sym, subst}
+use lib.Ieee.{Float, binary32, to_bits}
 use lib.ListN.{length}
 use Rattle.clip.specs.Keys.{Key}
-use Rattle.strip.specs.Plain.{Group}
-use Rattle.strip.specs.Keys.{key_bytes}
+use Rattle.strip.specs.Plain.{Group, morph_groups, morph_fields}
+use Rattle.strip.specs.Keys.{little_endian, key_bytes}
+use Rattle.strip.proofs.Bytes.{length-little_endian}
 use Rattle.strip.proofs.Keys.{Shaped}
 use Rattle.strip.proofs.Length.{widths}
 use Rattle.strip.proofs.Written.{bone-shaped, morph-shaped}
-use Rattle.keys.specs.Placed.{bone_key_bytes, morph_key_bytes}
+use Rattle.keys.specs.Placed.{bone_key_bytes, morph_key_bytes, weight_key_bytes}
 use Rattle.keys.proofs.Lengths.{standing_widths, key-length, any-frame}
-use Rattle.chains.specs.declared.block.Kind.{Kind}
+use Rattle.blocks.specs.declared.kind.Kind.{Kind}
 use Rattle.writing.specs.Tracks.{groups_of, fields_at, key_at}
+
+-- The length of a morph's key does not turn on its frame.
+pub any-weight : (frame : ℕ) (weight : Float) → length (weight_key_bytes 0 weight) ≡ length (weight_key_bytes frame weight)
+any-weight frame weight = any-frame morph_groups morph_fields 0 frame (little_endian 4 (to_bits binary32 weight)) (length-little_endian 4 _, tt)
 
 module _ (s : List ℕ) where
   pub bone-key : (kind : Kind) → kind ≡ Kind.Bone → (at frame : ℕ) → bone_key_bytes s at frame ≡ key_at s kind (record { frame = frame; body = at })
@@ -52,4 +58,4 @@ module _ (s : List ℕ) where
       widths-most Kind.Bone = omega arith
       widths-most Kind.Morph = omega arith
 
-pub ruleset keys = (bone-key, morph-key, every-frame)
+pub ruleset keys = (bone-key, morph-key, every-frame, any-weight)

@@ -9,10 +9,11 @@ use Rattle.strip.proofs.Bytes.{length-little_endian}
 use Rattle.keys.specs.Placed.{placed, Room, Wrote}
 use Rattle.keys.proofs.Placing.{length-placed, room-front, room_back, room-behind, wrote_then, wrote-before}
 use Rattle.chains.specs.Chain.{chain_at}
-use Rattle.chains.specs.declared.block.Block.{Block}
+use Rattle.blocks.specs.declared.block.Block.{Block}
 use Rattle.writing.specs.Tracks.{initial_bytes, records_bytes, strip_track}
-use Rattle.writing.proofs.Sums.{track-parts}
-use Rattle.writing.proofs.OfRecord.{of-initial}
+use Rattle.writing.proofs.Sums.{track-parts, track-long, records-most}
+use Rattle.writing.proofs.OfKind.{key-most}
+use Rattle.writing.proofs.OfRecord.{bytes-read}
 
 module _ (s : List ℕ) (b : Block) (track place : ℕ) (old : List ℕ) (room : Room place (strip_track s b track) old) where
   abbrev count : ℕ → List ℕ
@@ -60,4 +61,6 @@ module _ (s : List ℕ) (b : Block) (track place : ℕ) (old : List ℕ) (room :
           let after = subst (λ (at : ℕ). Wrote at (initial ++ records) old end mid) (sym two) keys in
           rw parts at (wrote-before place (count many) (initial ++ records) old all end mid new after (subst (λ (k : ℕ). new ≡ placed place (count k) mid) is e))
 
-pub ruleset rooms = (of-initial, records-room, count_room)
+pub ruleset rooms = (bytes-read, records-room, count_room)
+
+pub ruleset sums = (bytes-read, track-long, key-most)

@@ -13,9 +13,9 @@ use Rattle.strip.specs.Plain.{Group}
 use Rattle.strip.specs.Keys.{little_endian}
 use Rattle.strip.specs.Strip.{keys_bytes, track_bytes, tracks_bytes}
 use Rattle.strip.proofs.Bytes.{length-little_endian}
-use Rattle.chains.specs.Block.{links}
+use Rattle.blocks.specs.Block.{links}
 use Rattle.chains.specs.Chain.{chain_at}
-use Rattle.chains.specs.declared.block.Block.{Block}
+use Rattle.blocks.specs.declared.block.Block.{Block}
 use Rattle.writing.specs.Tracks.{groups_of, fields_at, initial_bytes, record_bytes, records_bytes, keys_at, strip_track, first_tracks}
 use Rattle.writing.proofs.OfKind.{key-most}
 

@@ -6,9 +6,10 @@ use Rattle.clip.specs.Section.{bone_body, morph_body}
 use Rattle.strip.specs.Plain.{Group, bone_groups, bone_fields, morph_groups, morph_fields}
 use Rattle.strip.specs.Keys.{key_bytes}
 use Rattle.strip.specs.Strip.{count_width, keys_bytes, track_bytes, tracks_bytes}
-use Rattle.chains.specs.Block.{kind_of, links}
-use Rattle.chains.specs.declared.block.Block.{Block}
-use Rattle.chains.specs.declared.block.Kind.{Kind}
+use Rattle.blocks.specs.Kind.{kind_of}
+use Rattle.blocks.specs.Block.{links}
+use Rattle.blocks.specs.declared.block.Block.{Block}
+use Rattle.blocks.specs.declared.kind.Kind.{Kind}
 
 abbrev pub groups_of : Kind → List Group
 groups_of Kind.Bone = bone_groups

@@ -11,4 +11,4 @@ pub returns-then-rising-clause-result_value : goal.returns-then-rising-clause-re
 returns-then-rising-clause-result_value c = rise-passes _ _ (c.rising.ensures c.if-rising.true)
 
 pub returns-then-rising-clause-ordered : goal.returns-then-rising-clause-ordered
-returns-then-rising-clause-ordered c = λ passes. subst (λ (slots : List ℕ). Ordered c.args.records.now.section.now c.args.records.now.block slots) (sym (c.fill.ensures ∙ ap up_to c.requires)) (rise-orders _ _ (c.rising.ensures c.if-rising.true) c.args.records.now.fits)
+returns-then-rising-clause-ordered c = λ passes. subst (λ (slots : List ℕ). Ordered c.args.records.now.section.now c.args.records.now.block slots) (sym (c.put_in_file_order.ensures ∙ ap up_to c.requires)) (rise-orders _ _ (c.rising.ensures c.if-rising.true) c.args.records.now.fits)

@@ -2,7 +2,8 @@
 use native.Mathlib.Omega.{arith}
 use Rattle.std.proofs.Common.{ℕ, List, length, get_or, sym, ap, ◌∙◌}
 use Rattle.strip.specs.Work.{track_mark}
-use Rattle.chains.specs.Block.{kind_of, links}
+use Rattle.blocks.specs.Kind.{kind_of}
+use Rattle.blocks.specs.Block.{links}
 use Rattle.marks.proofs.Unreached.{starts, passes, takes, leaves}
 use Rattle.marks.proofs.Marking.{zero-mark, some-mark}
 use Rattle.marks.proofs.Each.{length-each, each_at}

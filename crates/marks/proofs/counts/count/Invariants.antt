@@ -1,4 +1,5 @@
-use Rattle.chains.specs.Block.{kind_of, links}
+use Rattle.blocks.specs.Kind.{kind_of}
+use Rattle.blocks.specs.Block.{links}
 use Rattle.marks.proofs.Unreached.{Counted}
 use Rattle.marks.proofs.counts.count.Given as goal
 

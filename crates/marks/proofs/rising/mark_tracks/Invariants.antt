@@ -1,11 +1,13 @@
-use mathlib.Core.Option.{none}
-use mathlib.Core.Path.{◌≡◌}
-use Rattle.chains.specs.Block.{kind_of, links}
-use Rattle.track_keys.specs.Tracks.{tracks_meet}
-use Rattle.marks.proofs.Passing.{Passing}
+use Prim.Native.Nat.{◌+◌, ◌-◌}
+use Rattle.blocks.specs.Track.{number_of_track}
+use Rattle.marks.proofs.RisingChains.{Tracking, Seeing}
 use Rattle.marks.proofs.rising.mark_tracks.Given as goal
 
-abbrev pub invariant-loop-track : goal.invariant-loop-track
-invariant-loop-track l =
-    Passing (kind_of l.indexed.records.block.kind) (links l.indexed.records.section.now l.indexed.records.block) l.marks l.reached l.track
-    × (tracks_meet l.indexed.records.section.now l.indexed.records.block l.track ≡ none)
+abbrev pub invariant-tracks : goal.invariant-tracks
+invariant-tracks l = Tracking l.indexed.records.section.now l.indexed.records.block l.marks l.reached l.number l.rising
+
+abbrev pub invariant-loop-link : goal.invariant-loop-link
+invariant-loop-link l = Seeing l.indexed.records.section.now l.indexed.records.block (number_of_track l.track) l.initial.marks l.marks l.initial.reached l.reached l.expected l.link l.frame l.rising
+
+abbrev pub decreases-loop-link : goal.decreases-loop-link
+decreases-loop-link l = l.initial.reached + l.indexed.records.block.records.count - l.reached

@@ -1,8 +1,17 @@
 -- `build_and_write` meets its contract. Assumes nothing.
-use borrow.Author.Tests.{leb-true}
-use mathlib.Core.Path.{sym, ◌∙◌}
+use Rattle.strip_call.proofs.Built.{build-fine}
 use Rattle.strip_call.proofs.Ended.{written-says}
 use Rattle.strip_call.proofs.call.build_and_write.Goals as goal
 
+pub invariant_of-clip-5 : goal.invariant_of-clip-5
+invariant_of-clip-5 c =
+    let passed = c.in_ok-counted.ensures.builds in
+    record {
+      fine_bones = build-fine _ _ passed.of_bones.meets;
+      fine_morphs = rw c.args.records.now.one_section (build-fine _ _ passed.of_morphs.meets);
+      one_section = c.args.records.now.one_section;
+      short = c.args.records.now.short passed.of_bones.meets passed.of_morphs.meets;
+    }
+
 pub returns : goal.returns
-returns c = written-says c.args.records.now.bones.section.now c.args.records.now.bones.block c.args.records.now.morphs.block c.build_clip.ensures.first_outside c.build_clip.ensures.second_outside c.in_ok-counted.ensures.builds c.requires.first_long_enough c.requires.second_long_enough (leb-true _ _ (sym c.fits.ensures ∙ c.if-not-fits.false)) c.write-length.ensures
+returns c = written-says c.args.records.now.bones.section.now c.args.records.now.bones.block c.args.records.now.morphs.block c.build_clip.ensures.first_outside c.build_clip.ensures.second_outside c.in_ok-counted.ensures.builds c.requires.first_long_enough c.requires.second_long_enough c.in_default.ensures c.write-length.ensures

@@ -1,17 +1,16 @@
 -- `morph_key` meets its contract. Assumes nothing.
-use mathlib.Core.Path.{ap, ◌∙◌}
-use Rattle.clip.specs.Fields.{morph}
-use Rattle.clip.specs.Keys.{weight_asked}
+use Rattle.std.proofs.Common.{refl, sym}
 use Rattle.keys.proofs.Asking.{weight-fine, refused-14}
-use Rattle.chains.specs.declared.block.Kind.{Kind}
+use Rattle.blocks.proofs.Told.{told}
+use Rattle.blocks.specs.declared.kind.Kind.{Kind}
 use Rattle.track_keys.proofs.OneKey.{frame_refused, body-asked, key-told, refusal-told}
 use Rattle.track_keys.proofs.key.morph_key.Goals as goal
 
 pub returns-in-Err : goal.returns-in-Err
-returns-in-Err c = λ count. refusal-told c.args.body.now.section.now c.args.track.0 c.args.frame c.args.body.now.at c.args.repeated (frame_refused c.args.body.now.section.now Kind.Morph c.args.track.0 c.args.frame c.args.body.now.at c.args.repeated (c.in-Err.ensures morph count))
+returns-in-Err c = refusal-told c.args.body.now.section.now c.args.track.0 c.args.frame c.args.body.now.at c.args.repeated (frame_refused c.args.body.now.section.now Kind.Morph c.args.track.0 c.args.frame c.args.body.now.at c.args.repeated c.in-Err.ensures)
 
-pub returns-then-finite : goal.returns-then-finite
-returns-then-finite c = λ count. key-told c.args.body.now.section.now c.args.track.0 c.args.frame c.args.body.now.at c.args.repeated c.weight-weight.ensures (body-asked c.args.body.now.section.now Kind.Morph c.args.track.0 c.args.frame c.args.body.now.at c.args.repeated (c.in_default.ensures morph count) (weight-fine _ _ c.finite.ensures c.if-finite.true ∙ ap weight_asked c.weight-weight.ensures))
+pub returns-in-Some : goal.returns-in-Some
+returns-in-Some c = key-told c.args.body.now.section.now c.args.track.0 c.args.frame c.args.body.now.at c.args.repeated c.in-Some.ensures.0 (body-asked c.args.body.now.section.now Kind.Morph c.args.track.0 c.args.frame c.args.body.now.at c.args.repeated c.in_default.ensures (weight-fine _ _ (sym c.in-Some.ensures.1) refl))
 
-pub returns-else-finite : goal.returns-else-finite
-returns-else-finite c = λ count. refusal-told c.args.body.now.section.now c.args.track.0 c.args.frame c.args.body.now.at c.args.repeated (body-asked c.args.body.now.section.now Kind.Morph c.args.track.0 c.args.frame c.args.body.now.at c.args.repeated (c.in_default.ensures morph count) (refused-14 _ _ c.finite.ensures c.if-finite.false ∙ ap weight_asked c.weight-weight.ensures))
+pub returns-in-None : goal.returns-in-None
+returns-in-None c = rw (told _ c.cast_signed.type_inv c.cast_signed.ensures) (refusal-told c.args.body.now.section.now c.args.track.0 c.args.frame c.args.body.now.at c.args.repeated (body-asked c.args.body.now.section.now Kind.Morph c.args.track.0 c.args.frame c.args.body.now.at c.args.repeated c.in_default.ensures (refused-14 _ _ (sym c.in-None.ensures) refl)))

@@ -1,15 +1,15 @@
 -- `write_track` meets its contract: initial key and the keys of the chain are written behind the room of the count, then the count. Assumes nothing.
 use native.Mathlib.Omega.{arith}
-use Rattle.writing.proofs.OfRecord.{of-initial}
+use Rattle.writing.proofs.OfRecord.{bytes-read}
 use Rattle.writing.proofs.Measuring.{chain-most}
 use Rattle.writing.proofs.OneTrack.{initial-room, track-wrote}
 use Rattle.writing.proofs.track.write_track.Goals as goal
 
-pub write_key-next-requires : goal.write_key-next-requires
-write_key-next-requires c = rw (of-initial _ c.args.chain.now.indexed.records.block _ c.initial_key-initial.ensures.section c.initial_key-initial.ensures.kind c.initial_key-initial.ensures.frame c.initial_key-initial.ensures.at) (initial-room _ _ _ _ _ c.requires)
+pub write_key-next-requires-clause-room : goal.write_key-next-requires-clause-room
+write_key-next-requires-clause-room c = rw (bytes-read _ c.initial_key-initial.ensures.section c.initial_key-initial.ensures.kind c.initial_key-initial.ensures.frame c.initial_key-initial.ensures.at) (initial-room _ _ _ _ _ c.requires.room)
 
 pub overflow_add-written : goal.overflow_add-written
 overflow_add-written c = omega (arith, chain-most c.args.chain.now.ends, c.write_records-written.ensures.records_value)
 
 pub returns : goal.returns
-returns c = track-wrote _ _ _ _ _ c.requires _ _ (rw (of-initial _ c.args.chain.now.indexed.records.block _ c.initial_key-initial.ensures.section c.initial_key-initial.ensures.kind c.initial_key-initial.ensures.frame c.initial_key-initial.ensures.at) at c.write_key-next.ensures) _ _ c.write_records-written.ensures.wrote _ _ c.write_records-written.ensures.records_value c.write_count.ensures
+returns c = track-wrote _ _ _ _ _ c.requires.room _ _ (rw (bytes-read _ c.initial_key-initial.ensures.section c.initial_key-initial.ensures.kind c.initial_key-initial.ensures.frame c.initial_key-initial.ensures.at) at c.write_key-next.ensures) _ _ c.write_records-written.ensures.wrote _ _ c.write_records-written.ensures.records_value c.write_count.ensures

@@ -3,5 +3,5 @@ use mathlib.Core.Path.{◌≡◌}
 use lib.ListN.{length}
 use Rattle.writing.proofs.tracks.tracks_length.Given as goal
 
-abbrev pub invariant-loop-track : goal.invariant-loop-track
-invariant-loop-track l = l.bytes ≡ length (first_tracks l.chains.indexed.records.section.now l.chains.indexed.records.block l.track)
+abbrev pub invariant-loop-number : goal.invariant-loop-number
+invariant-loop-number l = l.bytes ≡ length (first_tracks l.chains.indexed.records.section.now l.chains.indexed.records.block l.number)

@@ -2,11 +2,11 @@
 use Rattle.writing.proofs.Filling.{tracks-none, tracks-room, tracks-more}
 use Rattle.writing.proofs.tracks.write_tracks.Goals as goal
 
-pub loop-track-init : goal.loop-track-init
-loop-track-init c = tracks-none c.requires
+pub loop-number-init : goal.loop-number-init
+loop-number-init c = tracks-none c.requires.room
 
 pub write_track-end-requires : goal.write_track-end-requires
-write_track-end-requires c = rw (c.chain.ensures.indexed, c.chain.ensures.track) (tracks-room c.requires c.loop-track.invariant c.loop-track-test.true)
+write_track-end-requires c = rw (c.chain.ensures.indexed, c.chain.ensures.track, c.track-track.ensures.number) (record { fine = c.requires.fine c.loop-number.number c.loop-number-test.true; room = tracks-room c.requires.room c.loop-number.invariant c.loop-number-test.true })
 
-pub loop-track-preserved : goal.loop-track-preserved
-loop-track-preserved c = tracks-more c.requires c.loop-track.invariant c.loop-track-test.true (rw (c.chain.ensures.indexed, c.chain.ensures.track) at c.write_track-end.ensures)
+pub loop-number-preserved : goal.loop-number-preserved
+loop-number-preserved c = tracks-more c.requires.room c.loop-number.invariant c.loop-number-test.true (rw (c.chain.ensures.indexed, c.chain.ensures.track, c.track-track.ensures.number) at c.write_track-end.ensures)

@@ -1,0 +1,4 @@
+pub mod Kind
+pub mod Track
+pub mod Block
+pub mod Fault

@@ -1,0 +1,12 @@
+-- The kind and the number of a track. Definitions only.
+use Rattle.std.specs.Prelude.{ℕ}
+use Rattle.blocks.specs.declared.kind.Kind.{Kind}
+use Rattle.blocks.specs.declared.track.TrackIndex.{TrackIndex}
+
+abbrev pub kind_of_track : TrackIndex → Kind
+kind_of_track (TrackIndex.Bone bone) = Kind.Bone
+kind_of_track (TrackIndex.Morph morph) = Kind.Morph
+
+abbrev pub number_of_track : TrackIndex → ℕ
+number_of_track (TrackIndex.Bone bone) = bone.0
+number_of_track (TrackIndex.Morph morph) = morph.0

@@ -1,4 +1,0 @@
-pub mod Digits
-pub mod Cleared
-pub mod Raising
-pub mod Meeting

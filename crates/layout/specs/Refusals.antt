@@ -1,0 +1,81 @@
+-- Document 01, "Turned down, and by whose doing": the number of each refusal, with the values that are told. Definitions only.
+use Rattle.std.specs.Prelude.{ℕ}
+
+-- "a value does not fit in the bytes left, a start past the end included (place: offset of the first number, byte, string body,
+-- interpolation block or skipped block not whole)"
+abbrev pub too_short : ℕ
+too_short = 1
+
+-- "negative count (its offset)"
+abbrev pub negative_count : ℕ
+negative_count = 2
+
+-- "index negative (index)"
+abbrev pub negative_index : ℕ
+negative_index = 3
+
+-- "index below its kind's count (index, count)"
+abbrev pub index_below_count : ℕ
+index_below_count = 4
+
+-- "index repeated (index)"
+abbrev pub repeated_index : ℕ
+repeated_index = 5
+
+-- "link to an absent index (track, link)"
+abbrev pub missing_link : ℕ
+missing_link = 6
+
+-- "cycle (track, link)"
+abbrev pub cycle : ℕ
+cycle = 7
+
+-- "wrong previous link (track, link, found, expected)"
+abbrev pub wrong_previous : ℕ
+wrong_previous = 8
+
+-- "record in two tracks (index)"
+abbrev pub shared_record : ℕ
+shared_record = 9
+
+-- "negative frame (track, frame)"
+abbrev pub negative_frame : ℕ
+negative_frame = 10
+
+-- "frame repeated in a track (track, frame)"
+abbrev pub repeated_frame : ℕ
+repeated_frame = 11
+
+-- "translation not finite", "orientation not finite or too short", "weight not finite (track, frame)"
+abbrev pub invalid_translation : ℕ
+invalid_translation = 12
+
+abbrev pub invalid_orientation : ℕ
+invalid_orientation = 13
+
+abbrev pub invalid_weight : ℕ
+invalid_weight = 14
+
+-- "unreached records with a nonzero link (how many)"
+abbrev pub disconnected_records : ℕ
+disconnected_records = 15
+
+-- "more than 16,777,215 bytes, tested first"
+abbrev pub too_long : ℕ
+too_long = 16
+
+-- "a u16 slice below A + B (the need); tested after reading"
+abbrev pub work_too_short : ℕ
+work_too_short = 17
+
+-- "output shorter than the strip (the strip's length); tested last"
+abbrev pub output_too_short : ℕ
+output_too_short = 18
+
+-- "no record or name of that number; tested after reading"
+abbrev pub absent : ℕ
+absent = 19
+
+-- "bone or morph count above 65,535, or their additional count above 65,534 (offset of the count); tested after 2"
+abbrev pub count_above_limit : ℕ
+count_above_limit = 20

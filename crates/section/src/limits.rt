@@ -1,0 +1,16 @@
+// The limits of this house (document 01, "Turned down").
+#[derive(Clone, Copy)]
+pub struct Limits {
+    // 16: the most bytes that may be lent.
+    pub length: usize,
+    // 20: the highest bone or morph count.
+    pub tracks: u32,
+    // 20: the highest count of additional bone or morph records.
+    pub additional: u32,
+}
+
+pub const EDITION_1: Limits = Limits {
+    length: 16_777_215,
+    tracks: 65_535,
+    additional: 65_534,
+};

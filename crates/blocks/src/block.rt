@@ -1,13 +1,14 @@
 // The records of one kind, where they stand in the section, and their numbers.
 ghost use Rattle.std.specs.Prelude.{◌≡◌, ◌+◌, ◌*◌, ◌<◌, ◌≤◌, length};
 ghost use Rattle.layout.specs.Walk.{u32_at};
-ghost use Rattle.blocks.specs.Track.{kind_of_track, number_of_track};
+ghost use Rattle.blocks.specs.Track.{number_of_track};
 ghost use Rattle.blocks.specs.Block.{Fits, TrackOf, links};
 
 use crate::kind::Kind;
 use crate::track::TrackIndex;
 use binary::numbers;
 use order::field::Field;
+
 // The frames of the initial records, one a track, and the indices of the additional records: the first number of each.
 #[derive(Clone, Copy)]
 pub struct Block {

@@ -48,7 +48,7 @@ impl Fault {
     }
 }
 
-// The number, and its values.
+// The number, and its values but for the kind.
 impl fmt::Display for Fault {
     fn fmt<W: fmt::Write>(&self, f: &mut fmt::Formatter<W>) -> fmt::Result {
         write!(f, "{}: ", self.number())?;

@@ -1,4 +1,5 @@
-// Document 01, module 4: the chain of a track, its records listed in the second work slice.
+// Runs only where tracks are not as MMD writes them (marks, rising). Document 01, module 4: the chain of a track, its records listed in the
+// second work slice.
 ghost use Rattle.std.specs.Prelude.{◌≡◌, ◌≤◌, length, IfOk};
 ghost use Rattle.clip.specs.First.{member};
 ghost use Rattle.clip.specs.Chain.{chain};

@@ -19,9 +19,8 @@ use Rattle.records.specs.declared.morph.MorphBits.{MorphBits}
 use Rattle.clip.specs.Fields.{Initial, Additional, BoneBody}
 use Rattle.clip.specs.Keys.{posed, float_at}
 use Rattle.clip.specs.Section.{bone_body, morph_body, initial_at, additional_at}
-use Rattle.keys.specs.Words.{words}
-use Rattle.keys.proofs.Bodies.{pose-is, weight_is}
-use Rattle.keys.proofs.ItemsRead.{number-was, pose-was}
+use Rattle.keys.proofs.Bodies.{pose-read, weight_is}
+use Rattle.keys.proofs.ItemsRead.{number-was}
 
 -- An additional record's base, and an initial one's, which has no index and whose previous link is no build field.
 pub record AdditionalShown {B : Type 0} (r : Additional B) (b : BaseBits) : Type 0 where
@@ -118,11 +117,7 @@ module _ (s : List ℕ) where
   initial-base at b next e = let made = rest-made None at at b next refl e in (sym made.0, made.1)
 
   pose-shown : (from j : ℕ) (p : PoseBits) (next : ℕ) → from + 16 ≡ j → pose_bits s j ≡ fine p next → posed (bone_body s from) ≡ pose_of p
-  pose-shown from j p next to read =
-      let x = pose-was s (from + 16) p next (ap (pose_bits s) to ∙ read) in
-      let pose : ℕ → PoseBits = λ k. record { translation = words 3 s (from + 16); orientation = words 4 s k } in
-      let same : from + 28 ≡ from + 16 + 12 = omega arith in
-      sym (pose-is s from) ∙ ap pose_of (ap pose same ∙ x.is)
+  pose-shown from j p next to read = sym (pose-read s from p next (sym (ap (pose_bits s) to ∙ read)))
 
   pub bone-rest : (base : BaseBits) (from i : ℕ) (b : BoneBits) (next : ℕ) → from ≡ i → bone_rest base s i ≡ fine b next → (base ≡ b.base) × (posed (bone_body s from) ≡ pose_of b.pose)
   bone-rest base from i b next to e =

@@ -11,10 +11,9 @@ use Rattle.layout.specs.Numbers.{float}
 use Rattle.layout.specs.Walk.{fine, u32_at, bytes_at}
 use Rattle.records.specs.Pose.{pose_bits, pose_of}
 use Rattle.records.specs.declared.pose.PoseBits.{PoseBits}
+use Rattle.records.proofs.PoseWhole.{seven, pose-was}
 use Rattle.clip.specs.Keys.{posed, float_at}
 use Rattle.clip.specs.Section.{bone_body, morph_body}
-use Rattle.keys.specs.Words.{words}
-use Rattle.keys.proofs.ItemsRead.{pose-was}
 
 pub length-bytes_at : (s : List ℕ) (at n : ℕ) → length (bytes_at s at n) ≡ n
 unfolding bytes_at
@@ -52,16 +51,14 @@ pub weight_is : (s : List ℕ) (at : ℕ) → float (u32_at s at) ≡ float_at (
 unfolding morph_body
 weight_is s at = ap float (sym (first-word-in s at 4 (omega arith)))
 
-pub pose-is : (s : List ℕ) (at : ℕ) → pose_of (record { translation = words 3 s (at + 16); orientation = words 4 s (at + 28) }) ≡ posed (bone_body s at)
+pub pose-is : (s : List ℕ) (at : ℕ) → pose_of (seven s (at + 16)) ≡ posed (bone_body s at)
 unfolding pose_of bone_body
 pose-is s at =
-    let third : at + 16 + 4 + 4 ≡ at + 16 + 8 = omega arith in
-    let fourth : at + 28 + 4 + 4 + 4 ≡ at + 28 + 12 = omega arith in
-    let third' : at + 28 + 4 + 4 ≡ at + 28 + 8 = omega arith in
     rw (
-      third,
-      fourth,
-      third',
+      add_assoc at 16 12,
+      add_assoc at 16 16,
+      add_assoc at 16 20,
+      add_assoc at 16 24,
       first-word-in s (at + 16) 12 (omega arith),
       word_in s (at + 16) 12 4 (omega arith),
       word_in s (at + 16) 12 8 (omega arith),
@@ -69,12 +66,13 @@ pose-is s at =
       word_in s (at + 28) 16 4 (omega arith),
       word_in s (at + 28) 16 8 (omega arith),
       word_in s (at + 28) 16 12 (omega arith),
+      add_assoc at 28 4,
+      add_assoc at 28 8,
+      add_assoc at 28 12,
     )
 
 -- The pose that the record reader has of a body.
 pub pose-read : (s : List ℕ) (at : ℕ) (b : PoseBits) (next : ℕ) → fine b next ≡ pose_bits s (at + 16) → pose_of b ≡ posed (bone_body s at)
-pose-read s at b next e =
-    let behind : at + 16 + 12 ≡ at + 28 = omega arith in
-    ap pose_of (sym (pose-was s (at + 16) b next (sym e)).is) ∙ rw behind (pose-is s at)
+pose-read s at b next e = ap pose_of (sym (pose-was s (at + 16) b next (sym e))) ∙ pose-is s at
 
 pub ruleset posed_is = (pose-read)

@@ -1,4 +1,3 @@
-pub mod Words
 pub mod Answers
 pub mod Plain
 pub mod Placed

@@ -51,12 +51,19 @@ impl<'a> BoneBody<'a> {
     }
 }
 
+// In the 32 bits of a float: the one of its sign, the least one of its exponent, and an exponent whose bits are all 1.
+const SIGN: u32 = 2147483648;
+
+const MANTISSA: u32 = 8388608;
+
+const ALL_ONES: u32 = 255;
+
 // Whether the float of 32 bits is finite: the bits of its exponent are not all 1.
 #[tactic(auto, using(crate::proofs::Finite::bits))]
 fn finite_bits(bits: u32) -> bool
     ensures { result ≡ finite (float bits) }
 {
-    bits % 2147483648 / 8388608 != 255
+    bits % SIGN / MANTISSA != ALL_ONES
 }
 
 impl<'a> MorphBody<'a> {

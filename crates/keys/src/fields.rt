@@ -1,7 +1,7 @@
 // Bytes written into an output at a place, and so the fields of a key. Each call answers where they end. The output and the place stand
 // beside one another. Tried: the output's rest, `&mut output[n..]`, each call answering how many bytes it wrote; and a struct of both, with
 // `put` as a method. Each proves in fewer lines, but a strip call takes 1 to 4 instructions in a hundred more of bones, 5 to 8 of morphs.
-ghost use Rattle.std.specs.Prelude.{◌≡◌, cond, [], ◌+◌};
+ghost use Rattle.std.specs.Prelude.{cond, [], ◌+◌};
 ghost use Rattle.keys.specs.Placed.{Room, Wrote, pose_bytes, curve_bytes};
 
 use crate::body::BoneBody;

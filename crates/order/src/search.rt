@@ -42,7 +42,7 @@ impl Rising<'_, '_> {
         })
     }
 
-    // Runs only where indices have gaps, or a link leads to no record. Kept out of line: inlined in `find`, it makes the strips of files in
+    // Runs only where indices have gaps, a link leads to no record, or frames of a track do not rise. Kept out of line: inlined in `find`, it makes the strips of files in
     // MMD's own order, which never come here, take 7 to 24 per cent more instructions.
     #[inline(never)]
     fn find_by_halves(&self, number: u32) -> Option<usize>

@@ -58,6 +58,16 @@ pub fn model_items(behind: u32, constraints: u32, parents: u32) -> Items
     }
 }
 
+// Seven f32.
+pub fn pose_items() -> Items
+    ensures { widths result ≡ replicate 7 4 }
+{
+    Items {
+        first: 4,
+        runs: [run(6, 4), NONE, NONE, NONE, NONE],
+    }
+}
+
 pub fn bone_state_items() -> Items
     ensures { widths result ≡ bone_state }
 {

@@ -4,8 +4,9 @@ ghost use Rattle.layout.specs.Walk.{fine};
 ghost use Rattle.binary.specs.Answers.{read};
 ghost use Rattle.records.specs.Pose.{pose_bits, pose_of};
 
+use crate::items;
 use binary::refusal::Read;
-use binary::{groups, numbers};
+use binary::{blocks, numbers};
 use std::num;
 
 #[derive(Clone, Copy)]
@@ -46,17 +47,12 @@ pub fn pose_at(s: &[u8], at: usize) -> PoseBits
     }
 }
 
-#[tactic(auto, unfolding(crate::specs::Pose::pose_bits))]
+#[tactic(auto, using(crate::proofs::PoseWhole::poses))]
 pub fn read_pose(s: &[u8], at: usize) -> Read<PoseBits>
     ensures { read result ≡ pose_bits s.now at }
 {
-    let (translation, at) = groups::read_u32s_le(s, at)?;
-    let (orientation, next) = groups::read_u32s_le(s, at)?;
-    let bits = PoseBits {
-        translation,
-        orientation,
-    };
-    Ok((bits, next))
+    let next = blocks::skip_records(s, at, 1, &items::pose_items())?;
+    Ok((pose_at(s, at), next))
 }
 
 impl From<PoseBits> for Pose {

@@ -67,7 +67,7 @@ impl StripRefusal {
     }
 }
 
-// The number, and its values.
+// The number, and its values but for the kind.
 impl fmt::Display for StripRefusal {
     fn fmt<W: fmt::Write>(&self, f: &mut fmt::Formatter<W>) -> fmt::Result {
         match *self {

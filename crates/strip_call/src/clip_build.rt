@@ -1,5 +1,5 @@
 // Document 01, module 5: all bones, then all morphs, in the parts of the work slices that belong to each kind.
-ghost use Rattle.std.specs.Prelude.{◌≡◌, ◌+◌, ◌≤◌, length};
+ghost use Rattle.std.specs.Prelude.{◌+◌, ◌≤◌, length};
 ghost use Rattle.strip_call.specs.Building.{Builds, ClipBuilds};
 ghost use Rattle.strip_call.specs.Need.{need_of};
 ghost use Rattle.strip_call.specs.Parts.{part, Outside};

@@ -7,13 +7,13 @@ use Rattle.blocks.specs.declared.key.Key.{Key}
 use Rattle.blocks.specs.declared.track.TrackIndex.{TrackIndex}
 use Rattle.writing.specs.Tracks.{key_at}
 
-abbrev pub read : Key → clip.Key ℕ
-read k = record { frame = k.frame; body = k.at }
+abbrev pub key_of : Key → clip.Key ℕ
+key_of k = record { frame = k.frame; body = k.at }
 
 abbrev pub bytes_of : Key → List ℕ
-bytes_of k = key_at k.section.now k.kind (read k)
+bytes_of k = key_at k.section.now k.kind (key_of k)
 
 -- A key of a track that was accepted.
 pub record Accepted (k : Key) (track : TrackIndex) : Type 0 where
   pub kind : kind_of_track track ≡ k.kind
-  pub fine : KeyFine k.section.now k.kind (number_of_track track) (read k)
+  pub fine : KeyFine k.section.now k.kind (number_of_track track) (key_of k)

@@ -36,7 +36,7 @@ static void add(struct answer *a, uint64_t value) {
 }
 
 static void add_floats(struct answer *a, size_t offset, size_t n) {
-    for (size_t i = 0; i < n; i++) add(a, float_at(copy, offset + 4 * i));
+    for (size_t i = 0; i < n; i++) add(a, u32_at(copy, offset + 4 * i));
 }
 
 static void add_base(struct answer *a, const struct list *list, size_t at) {

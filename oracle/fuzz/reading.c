@@ -18,12 +18,6 @@ uint32_t u32_at(const uint8_t *section, size_t offset) {
     return b[0] | (uint32_t)b[1] << 8 | (uint32_t)b[2] << 16 | (uint32_t)b[3] << 24;
 }
 
-uint64_t float_at(const uint8_t *section, size_t offset) {
-    uint32_t bits = u32_at(section, offset);
-    bool nan = (bits & 0x7f800000) == 0x7f800000 && (bits & 0x007fffff) != 0;
-    return nan ? 0x7fc00000 : bits;
-}
-
 static void refuse(struct cursor *c, uint32_t number, size_t place) {
     if (c->refused.status == 0) {
         c->refused.status = number;
@@ -222,7 +216,7 @@ struct answer model_numbers(const uint8_t *s, size_t start, const struct model *
     v[n++] = u32_at(s, m->scroll_at + 4);
     v[n++] = s[m->display_at + 1] != 0;
     v[n++] = s[m->ending_at] != 0;
-    v[n++] = float_at(s, m->ending_at + 1);
+    v[n++] = u32_at(s, m->ending_at + 1);
     v[n++] = s[m->ending_at + 5] != 0;
     const struct kind *kinds[] = {&m->bone, &m->morph, &m->whole};
     for (size_t i = 0; i < 3; i++) {

@@ -65,8 +65,7 @@ struct built {
 };
 void build(const uint8_t *section, const struct model *model, struct built *built);
 
+/* An i32's pattern or a float's bits, as the calls answer both: a float is never made of them, so a NaN stays the one it is. */
 uint32_t u32_at(const uint8_t *section, size_t offset);
-/* A float's bits as the calls answer them. */
-uint64_t float_at(const uint8_t *section, size_t offset);
 
 #endif

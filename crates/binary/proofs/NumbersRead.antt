@@ -1,4 +1,5 @@
--- Numbers read one after another. Assumes nothing.
+-- Numbers read one after another: the first i stand in `values`, and these with the others, read from `next` on, are what is read from the
+-- first one on (`Passed`). Assumes nothing.
 use Rattle.std.proofs.Common.{◌≡◌, ℕ, suc, ◌+◌, ◌-◌, ◌<◌, ◌≤◌, List, [], ◌∷◌, ◌++◌, length, take, refl, ◌∙◌, arith, append_assoc, append-nil, take_all}
 use Rattle.std.proofs.Math.ListN.{set, length-set}
 use Rattle.std.proofs.lemmas.List.{take_more_set}

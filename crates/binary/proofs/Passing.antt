@@ -1,4 +1,5 @@
--- The arithmetic of a record's runs, one after another: sizes add up, and places are found run by run. Assumes nothing.
+-- The first item and i runs come to n: n and the size of the other runs are the record's size (`Sized`), n and the place in the other runs
+-- are the place in the record (`Whole`). A run has less than 2^41 bytes, so five can be added up. Assumes nothing.
 use Rattle.std.proofs.Common.{◌≡◌, ℕ, suc, ◌+◌, ◌-◌, ◌*◌, ◌/◌, ◌≤◌, ◌<◌, [], ◌++◌, replicate, length, get_or, drop, drop-cons, add-one, refl, sym, ap, ◌∙◌, arith}
 use Rattle.std.proofs.lemmas.List.{drop_all}
 use Rattle.layout.specs.Records.{size}

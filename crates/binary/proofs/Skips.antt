@@ -1,4 +1,5 @@
--- `skip_records` return by return: what a block of records comes to. Assumes nothing.
+-- `skip_records` return by return: n records are whole if n is no more than the room divided by a record's size; else the first item that
+-- is not whole stands behind those that fit, at its place in the remainder (layout, Blocks). Assumes nothing.
 use Prim.Native.Nat.{ℕ, zero, suc, ◌+◌, ◌-◌, ◌*◌, ◌/◌, ◌%◌, ◌≤◌, ◌<◌}
 use mathlib.Core.List.{List, ◌∷◌}
 use mathlib.Core.Path.{◌≡◌, refl, sym, ap, ◌∙◌}

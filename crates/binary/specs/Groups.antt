@@ -1,4 +1,4 @@
--- Some i32 or f32, one behind the other, as their 32 bits each. Definitions only.
+-- Some i32 or f32 (FORMAT, Numbers), one behind the other, as their 32 bits each.
 use Rattle.std.specs.Prelude.{ℕ, zero, suc, List, [], ◌∷◌}
 use Rattle.layout.specs.Walk.{Reader, ◌>>=◌, give, u32}
 

@@ -1,7 +1,6 @@
 -- The items that `Items` of src/blocks.rt stands for, by their widths.
 use Rattle.std.specs.Prelude.{ℕ, List, [], ◌∷◌, ◌++◌, replicate}
-use Rattle.binary.specs.declared.runs.Run.{Run}
-use Rattle.binary.specs.declared.blocks.Items.{Items}
+use Rattle.binary.specs.declared.{runs.Run.{Run}, blocks.Items.{Items}}
 
 -- The items of runs, one behind the other.
 abbrev pub runs_widths : List Run → List ℕ

@@ -1,6 +1,6 @@
 // Why a call that reads a section gives no result (document 01, "Turned down").
 ghost use Rattle.std.specs.Prelude.{◌≡◌};
-ghost use Rattle.binary.specs.Answers.{because};
+ghost use Rattle.binary.specs.Answers.{reading_refusal};
 
 use std::error::Error;
 use std::fmt;
@@ -23,7 +23,7 @@ pub enum Refusal {
 impl Refusal {
     // Document 01's number.
     pub fn number(self) -> u8
-        ensures { result ≡ (because self).number }
+        ensures { result ≡ (reading_refusal self).number }
     {
         match self {
             Refusal::TooShort(_) => 1,

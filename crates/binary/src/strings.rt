@@ -13,9 +13,15 @@ pub fn read_variable_string(s: &[u8], at: usize) -> Read<Part>
     ensures { read result ≡ string s.now at }
 {
     let (width, offset) = numbers::read_u8(s, at)?;
-    let length = width as usize;
-    let next = numbers::skip(s, offset, length)?;
-    Ok((Part { offset, length }, next))
+    let byte_length = width as usize;
+    let next = numbers::skip(s, offset, byte_length)?;
+    Ok((
+        Part {
+            offset,
+            byte_length,
+        },
+        next,
+    ))
 }
 
 fn first_zero(bytes: &[u8]) -> Option<usize>
@@ -30,8 +36,14 @@ pub fn read_fixed_string(s: &[u8], at: usize, width: usize) -> Read<Part>
     ensures { read result ≡ fixed_string width s.now at }
 {
     let next = numbers::skip(s, at, width)?;
-    let length = first_zero(&s[at..next]).unwrap_or(width);
-    Ok((Part { offset: at, length }, next))
+    let byte_length = first_zero(&s[at..next]).unwrap_or(width);
+    Ok((
+        Part {
+            offset: at,
+            byte_length,
+        },
+        next,
+    ))
 }
 
 // The position behind `count` strings.

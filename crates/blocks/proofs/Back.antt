@@ -1,4 +1,5 @@
--- What is met is known by what document 01 says of it: it can be told back from number and values. Assumes nothing.
+-- What is met is known by what document 01 says of it: `fault_back` tells it back from number and values, one number after the other, and
+-- for each case of the enum that computes to the case itself. Assumes nothing.
 use Prim.Native.Nat.{ℕ}
 use mathlib.Core.Bool.{cond}
 use mathlib.Core.Path.{◌≡◌, refl}

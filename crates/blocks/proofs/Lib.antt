@@ -1,3 +1,3 @@
 pub mod Places
-pub mod Told
+pub mod CastSigned
 pub mod Back

@@ -1,4 +1,4 @@
--- Records stand in the lent bytes. Assumes nothing.
+-- Records stand in the lent bytes: record p ends where the first p + 1 records end, which is within the block. Assumes nothing.
 use Prim.Native.Nat.{ℕ, suc, ◌+◌, ◌*◌, ◌≤◌, ◌<◌}
 use native.Mathlib.Nat.{suc-mul, mul-le-mul_right}
 use native.Mathlib.Omega.{arith}
@@ -14,15 +14,15 @@ place-fits first width count p most lt fits =
     omega (arith, more, one)
 
 module _ (s : List ℕ) (b : Block) (fits : Fits s b) where
-  pub record-fits : (p : ℕ) → p < b.records.count → b.records.first + p * b.records.width + (16 + body_size b.kind) ≤ length s
+  pub record-fits : (p : ℕ) → p < b.records.count → b.records.offset + p * b.records.width + (16 + body_size b.kind) ≤ length s
   record-fits p lt =
-      let place = place-fits b.records.first b.records.width b.records.count p (length s) lt fits.records in
+      let place = place-fits b.records.offset b.records.width b.records.count p (length s) lt fits.records in
       let wide = fits.record_width in
       omega (arith, place, wide)
 
-  pub initial-fits : (t : ℕ) → t < b.initials.count → b.initials.first + t * b.initials.width + (12 + body_size b.kind) ≤ length s
+  pub initial-fits : (t : ℕ) → t < b.initials.count → b.initials.offset + t * b.initials.width + (12 + body_size b.kind) ≤ length s
   initial-fits t lt =
-      let place = place-fits b.initials.first b.initials.width b.initials.count t (length s) lt fits.initials in
+      let place = place-fits b.initials.offset b.initials.width b.initials.count t (length s) lt fits.initials in
       let wide = fits.initial_width in
       omega (arith, place, wide)
 

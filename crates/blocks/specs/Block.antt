@@ -1,11 +1,8 @@
--- The records of one kind where they stand in a section. Definitions only.
+-- The records of one kind where they stand in a section.
 use Rattle.std.specs.Prelude.{ℕ, ◌+◌, ◌*◌, ◌≤◌, ◌<◌, ◌≡◌, List, length}
 use Rattle.section.specs.Limits.{edition1}
-use Rattle.clip.specs.Fields.{Records}
-use Rattle.clip.specs.Section.{initial_at, additional_at}
-use Rattle.blocks.specs.declared.block.Block.{Block}
-use Rattle.blocks.specs.declared.kind.Kind.{Kind}
-use Rattle.blocks.specs.declared.track.TrackIndex.{TrackIndex}
+use Rattle.clip.specs.{Fields.{Records}, Section.{initial_at, additional_at}}
+use Rattle.blocks.specs.declared.{block.Block.{Block}, kind.Kind.{Kind}, track.TrackIndex.{TrackIndex}}
 use Rattle.blocks.specs.Track.{kind_of_track, number_of_track}
 
 -- A body's bytes: 44 of a bone, 4 of a morph.
@@ -18,15 +15,15 @@ abbrev pub links : List ℕ → Block → Records ℕ
 links s b =
     record {
       tracks = b.initials.count;
-      initial = λ t. initial_at (λ s at. at) s (b.initials.first + t * b.initials.width);
+      initial = λ t. initial_at (λ s at. at) s (b.initials.offset + t * b.initials.width);
       additional = b.records.count;
-      at = λ p. additional_at (λ s at. at) s (b.records.first + p * b.records.width);
+      at = λ p. additional_at (λ s at. at) s (b.records.offset + p * b.records.width);
     }
 
 -- The blocks stand in the lent bytes, and within 01's limits.
 pub record Fits (s : List ℕ) (b : Block) : Type 0 where
-  pub initials : b.initials.first + b.initials.count * b.initials.width ≤ length s
-  pub records : b.records.first + b.records.count * b.records.width ≤ length s
+  pub initials : b.initials.offset + b.initials.count * b.initials.width ≤ length s
+  pub records : b.records.offset + b.records.count * b.records.width ≤ length s
   pub initial_width : 12 + body_size b.kind ≤ b.initials.width
   pub record_width : 16 + body_size b.kind ≤ b.records.width
   pub few_tracks : b.initials.count ≤ edition1.tracks

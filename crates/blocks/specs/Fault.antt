@@ -1,13 +1,11 @@
--- What each refusal of a build says in document 01's terms. Definitions only.
+-- What each refusal of a build says in document 01's terms (FORMAT, Refusals).
 use Rattle.std.specs.Prelude.{ℕ, ℤ, List, [], ◌∷◌, pos, Result, Ok, Err}
 use Rattle.std.proofs.Math.Option.{Option, none, some}
 use Rattle.layout.specs.Refusals.{negative_index, index_below_count, repeated_index, missing_link, cycle, wrong_previous, negative_frame, repeated_frame, invalid_translation, invalid_orientation, invalid_weight, disconnected_records}
 use Rattle.layout.specs.Walk.{Refusal, refusal}
 use Rattle.clip.specs.Fields.{refusal_of}
-use Rattle.blocks.specs.Kind.{kind_of}
-use Rattle.blocks.specs.Track.{kind_of_track, number_of_track}
-use Rattle.blocks.specs.declared.track.TrackIndex.{TrackIndex}
-use Rattle.blocks.specs.declared.fault.Fault.{Fault}
+use Rattle.blocks.specs.{Kind.{kind_of}, Track.{kind_of_track, number_of_track}}
+use Rattle.blocks.specs.declared.{track.TrackIndex.{TrackIndex}, fault.Fault.{Fault}}
 
 -- "3 to 11 and 15 also say bone or morph": a track is told with its kind.
 abbrev pub of_track : TrackIndex → ℕ → List ℤ → Refusal

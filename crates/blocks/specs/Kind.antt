@@ -1,4 +1,4 @@
--- The kinds of track in document 01's terms. Definitions only.
+-- The kinds of track in document 01's terms.
 use Rattle.clip.specs.Fields.{bone, morph}
 use Rattle.clip.specs.Fields as Fields
 use Rattle.blocks.specs.declared.kind.Kind.{Kind}

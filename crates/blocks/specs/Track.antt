@@ -1,7 +1,6 @@
--- The kind and the number of a track. Definitions only.
+-- The kind and the number of a track.
 use Rattle.std.specs.Prelude.{ℕ}
-use Rattle.blocks.specs.declared.kind.Kind.{Kind}
-use Rattle.blocks.specs.declared.track.TrackIndex.{TrackIndex}
+use Rattle.blocks.specs.declared.{kind.Kind.{Kind}, track.TrackIndex.{TrackIndex}}
 
 abbrev pub kind_of_track : TrackIndex → Kind
 kind_of_track (TrackIndex.Bone bone) = Kind.Bone

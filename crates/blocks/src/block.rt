@@ -27,18 +27,18 @@ pub struct Records<'a> {
 
 // Where a record begins.
 fn place(f: Field, p: usize) -> usize
-    requires { f.first + p * f.width < 18446744073709551616 }
-    ensures { result ≡ f.first + p * f.width }
+    requires { f.offset + p * f.width < 18446744073709551616 }
+    ensures { result ≡ f.offset + p * f.width }
 {
-    f.first + p * f.width
+    f.offset + p * f.width
 }
 
 #[tactic(auto, unfolding(clip::specs::Section::additional_at, clip::specs::Section::initial_at))]
 impl<'a> Records<'a> {
     // A number of a record, so many bytes behind its first one.
     fn number(&self, f: Field, p: usize, bytes: usize) -> u32
-        requires { f.first + p * f.width + bytes + 4 ≤ length self.now.section.now }
-        ensures { result ≡ u32_at self.now.section.now (f.first + p * f.width + bytes) }
+        requires { f.offset + p * f.width + bytes + 4 ≤ length self.now.section.now }
+        ensures { result ≡ u32_at self.now.section.now (f.offset + p * f.width + bytes) }
     {
         numbers::u32_at(self.section, place(f, p) + bytes)
     }

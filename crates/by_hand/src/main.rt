@@ -1,11 +1,11 @@
 // Document 01, "Sections by hand": the cases without a mark, run.
 #![tactic(auto)]
 
-use lists::keyframe::Keyframe;
+use camera_light::camera::CameraKeyframeSummary;
+use camera_light::track;
+use camera_light::track::Kind;
+use entries::keyframe::Keyframe;
 use std::io;
-use tracks::camera::CameraKeyframeSummary;
-use tracks::track;
-use tracks::track::Kind;
 
 fn say_track(rt: &impl Print, what: &str, section: &[u8], kind: Kind) -> io::Result<()> {
     match track::read_document_track_summary(section, 0, kind) {

@@ -1,11 +1,9 @@
--- Document 01, "Sections by hand": each section, what reading it from 0 gives, and what the strip call gives. Definitions only.
+-- Document 01, "Sections by hand": each section, what reading it from 0 gives, and what the strip call gives.
 use Rattle.std.specs.Prelude.{ℕ, List, [], ◌∷◌, ℤ, pos, take, replicate}
 use Rattle.layout.specs.Walk.{Answer, answered, declined}
-use Rattle.section.specs.Limits.{edition1}
-use Rattle.section.specs.Summary.{model_summary}
+use Rattle.section.specs.{Limits.{edition1}, Summary.{model_summary}}
 use Rattle.section.specs.declared.summary.PmmDocumentModelSummary.{PmmDocumentModelSummary}
-use Rattle.strip.specs.Strip.{count_width}
-use Rattle.strip.specs.Call.{Outcome, strip_call}
+use Rattle.strip.specs.{Strip.{count_width}, Call.{Outcome, strip_call}}
 use Rattle.cases.specs.Sections.{zeros, negative_bone_count, one_bone, without_orientation, linked}
 
 pub data Question : Type 0 where
@@ -30,7 +28,7 @@ read (declined why) = refuses why.number why.values
 abbrev pub stripped : Outcome → Given
 stripped o =
     elim o.answer [
-      | answered b ↦ accepts (take b.length o.output) b.reached b.loose o.first o.second
+      | answered b ↦ accepts (take b.strip_length o.output) b.reached b.loose o.first o.second
       | declined why ↦ refuses why.number why.values
     ]
 

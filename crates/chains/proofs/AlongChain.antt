@@ -1,4 +1,5 @@
--- A chain that ends, followed by its links: each link but the last, which is 0, leads to the next record of it. Assumes nothing.
+-- A chain that ends, followed by its links: `link` is the one behind its first i records (`Along`), 0 exactly where all are passed. Any
+-- other link is the next record's index, and no other record bears it. Assumes nothing.
 use Prim.Native.Nat.{ℕ, zero, suc, ◌+◌, ◌<◌}
 use native.Mathlib.Numerals.{add-one}
 use native.Mathlib.Omega.{arith}

@@ -1,5 +1,5 @@
--- The positions by rising index (strip, specs/Work.antt): each once, by rising keys, and so the one list that sorting gives; and what a search
--- in them finds. Assumes nothing.
+-- The positions by rising index (strip, specs/Work): each stands once and their keys rise, and a list is known by that (order, Unique), so
+-- it is the one that sorting leaves; and what a search in it finds is the record of an index. Assumes nothing.
 use Prim.Native.Nat.{ℕ, zero, suc, ◌+◌, ◌*◌, ◌≤◌, ◌<◌}
 use native.Mathlib.Omega.{arith}
 use mathlib.Core.Bool.{Bool, true, false, cond}
@@ -144,7 +144,7 @@ module _ (s : List ℕ) (b : Block) (fits : Fits s b) where
   index-field =
       let wide = fits.record_width in
       let few = fits.few_records in
-      within_block s b.records b.records.first 0 (omega arith) fits.records (omega (arith, wide)) (omega (arith, few))
+      within_block s b.records b.records.offset 0 (omega arith) fits.records (omega (arith, wide)) (omega (arith, few))
 
   pub strictly-by_index : (n : ℕ) → n ≤ 65536 → Strictly (key_of s b.records) (by_index (links s b) n)
   unfolding key_of number_of additional_at key

@@ -1,4 +1,5 @@
--- The walk along a chain, step by step: the records so far are listed, and linked from the track's initial record on. Assumes nothing.
+-- The walk along a chain: its first n records stand in the list, linked from the track's initial record on to `link`, and `expected` is the
+-- previous link of the next (`Going`). So what ends the walk ends the chain (clip, Walked). Assumes nothing.
 use Prim.Native.Nat.{ℕ, ◌+◌, ◌≤◌, ◌<◌}
 use native.Mathlib.Numerals.{add-one}
 use native.Mathlib.Omega.{arith}

@@ -1,4 +1,5 @@
--- The index scan where the indices rise in file order. Assumes nothing.
+-- Indices that rise in file order from the kind's count on (`Rising`: the first p do, and are below `least`) are in range, and no two are
+-- alike: so the index scan passes, and 0, 1, .. are the positions by rising index. Assumes nothing.
 use Prim.Native.Nat.{ℕ, ◌≤◌, ◌<◌}
 use native.Mathlib.Omega.{arith}
 use mathlib.Core.List.{List}
@@ -41,7 +42,7 @@ module _ (s : List ℕ) (b : Block) where
     unfolding key_of number_of additional_at
     sorted =
         record {
-          length = refl;
+          as_many = refl;
           same = λ x. refl;
           rises = λ i j ij lt.
               let long = up_to-length b.records.count in

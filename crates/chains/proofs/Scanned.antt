@@ -1,4 +1,5 @@
--- The index scan from two numbers: how many records in front are in range, and the first whose index an earlier one has. Assumes nothing.
+-- The index scan from two numbers, how many records in front are in range and the first whose index an earlier one has: nothing is met
+-- before both, so the smaller says what is met first, and at one record 3 and 4 come before 5. Assumes nothing.
 use Prim.Native.Nat.{ℕ, ◌≤◌, ◌<◌, ◌^◌}
 use native.Mathlib.Omega.{arith}
 use mathlib.Core.Bool.{Bool, true, false, cond}
@@ -16,7 +17,7 @@ use Rattle.order.proofs.Counted.{up_to-below, up_to-once, up_to-has, up_to-none}
 use Rattle.order.proofs.Laws.{sorted-strictly}
 use Rattle.layout.specs.Numbers.{signed}
 use Rattle.layout.specs.Walk.{Refusal}
-use Rattle.clip.specs.First.{first}
+use Rattle.clip.specs.First.{first_met}
 use Rattle.clip.specs.Fields.{refusal_of}
 use Rattle.clip.specs.Scan.{index_refusal, scan}
 use Rattle.clip.specs.Section.{additional_at}
@@ -40,7 +41,7 @@ module _ (s : List ℕ) (b : Block) where
         (none_or _ _ (none-given _ _ (le-ltb ((links s b).at p).index b.initials.count (ranged.above p ln)))
         (none-given _ _ (false-any (λ q. eqb ((links s b).at q).index ((links s b).at p).index) p (λ q less. ne_eqb ((links s b).at q).index ((links s b).at p).index (repeat.apart q p less lm)))))
 
-    all-fine : (k : ℕ) → k ≤ n → k ≤ m → first k (index_refusal (kind_of b.kind) (links s b)) ≡ none
+    all-fine : (k : ℕ) → k ≤ n → k ≤ m → first_met k (index_refusal (kind_of b.kind) (links s b)) ≡ none
     all-fine k kn km = none_first k (index_refusal (kind_of b.kind) (links s b)) (λ p lt. fine p (omega arith) (omega arith))
 
     pub scan-repeated : m < n → {bits : ℕ} → bits ≡ ((links s b).at m).index → {z : ℤ} → z ≡ signed bits → some (refusal_of (kind_of b.kind) 5 (z ∷ [])) ≡ scan (kind_of b.kind) (links s b)

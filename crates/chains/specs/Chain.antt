@@ -1,11 +1,8 @@
--- The chain of a track, which ends, and how far it was followed. Definitions only.
+-- The chain of a track, which ends, and how far it was followed.
 use Rattle.std.specs.Prelude.{ℕ, zero, suc, ◌<◌, ◌≤◌, List, ◌≡◌, length, get_or}
 use Rattle.layout.specs.Walk.{answered}
-use Rattle.clip.specs.Fields.{Records}
-use Rattle.clip.specs.Chain.{chain}
-use Rattle.clip.specs.Build.{chain_of}
-use Rattle.blocks.specs.Kind.{kind_of}
-use Rattle.blocks.specs.Block.{links}
+use Rattle.clip.specs.{Fields.{Records}, Chain.{chain}, Build.{chain_of}}
+use Rattle.blocks.specs.{Kind.{kind_of}, Block.{links}}
 use Rattle.chains.specs.Lookup.{Ordered}
 use Rattle.blocks.specs.declared.block.Block.{Block}
 

@@ -1,4 +1,4 @@
--- Records found by their index, in the first work slice. Definitions only.
+-- Records found by their index, in the first work slice.
 use Rattle.std.specs.Prelude.{ℕ, List, ◌≡◌, Option, Some, None}
 use Rattle.std.proofs.Math.Option as maybe
 use Rattle.clip.specs.Scan.{Indexed}

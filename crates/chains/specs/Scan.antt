@@ -1,4 +1,4 @@
--- Indices in range, and indices that rise. Definitions only.
+-- Indices in range, and indices that rise.
 use Rattle.std.specs.Prelude.{ℕ, ◌≤◌, ◌<◌, ◌⊎◌, List}
 use Rattle.layout.specs.Numbers.{least_negative}
 use Rattle.blocks.specs.Block.{links}

@@ -1,4 +1,4 @@
--- A step along a chain. Definitions only.
+-- A step along a chain.
 use Rattle.std.specs.Prelude.{ℕ, List, ◌≡◌, Option, Some, None}
 use Rattle.std.proofs.Math.Option as maybe
 use Rattle.clip.specs.Scan.{record_of}

@@ -1,13 +1,10 @@
--- What a walk along a chain answers. Definitions only.
+-- What a walk along a chain answers.
 use Rattle.std.specs.Prelude.{ℕ, ◌<◌, List, ◌≡◌, take, Result, Ok, Err}
 use Rattle.layout.specs.Walk.{Answer, answered, declined}
 use Rattle.clip.specs.Chain.{chain}
-use Rattle.clip.specs.Build.{chain_of}
-use Rattle.blocks.specs.Kind.{kind_of}
-use Rattle.blocks.specs.Block.{links}
-use Rattle.blocks.specs.Fault.{fault_of}
-use Rattle.blocks.specs.declared.block.Block.{Block}
-use Rattle.blocks.specs.declared.fault.Fault.{Fault}
+use Rattle.blocks.specs.{Kind.{kind_of}, Block.{links}, Fault.{fault_of}}
+use Rattle.chains.specs.Chain.{chain_at}
+use Rattle.blocks.specs.declared.{block.Block.{Block}, fault.Fault.{Fault}}
 
 -- The records of the chain stand at the front of the second work slice.
 abbrev pub walked_read : List ℕ → Result ℕ Fault → Answer (List ℕ)
@@ -16,4 +13,4 @@ walked_read list (Err fault) = declined (fault_of fault)
 
 -- Every track's chain ends.
 abbrev pub AllEnd : List ℕ → Block → Type 0
-AllEnd s b = (t : ℕ) → t < b.initials.count → chain (kind_of b.kind) (links s b) t ≡ answered (chain_of (kind_of b.kind) (links s b) t)
+AllEnd s b = (t : ℕ) → t < b.initials.count → chain (kind_of b.kind) (links s b) t ≡ answered (chain_at s b t)

@@ -12,7 +12,7 @@ use lib.ListN.{length}
 use Rattle.layout.specs.Refusals.{missing_link, cycle, wrong_previous}
 use Rattle.layout.specs.Numbers.{signed}
 use Rattle.layout.specs.Walk.{Answer, answered}
-use Rattle.clip.specs.First.{given, ◌or◌, first, any, member}
+use Rattle.clip.specs.First.{given, ◌or◌, first_met, any, member}
 use Rattle.clip.specs.Fields.{Initial, Additional, Records, Kind, refusal_of}
 use Rattle.clip.specs.Scan.{index_refusal, scan, record_of}
 use Rattle.clip.specs.Chain.{unless, found, with, follow, chain}
@@ -20,8 +20,8 @@ use Rattle.clip.specs.Keys.{Key, KeyTest}
 use Rattle.clip.specs.Build.{record_key, positions, chain_of, keys, reached_before, reached, both_links_zero, disconnected, links_followed, loose, records_refusal, track_refusal, build_refusal}
 use Rattle.clip.proofs.Counting.{number-cong, total-cong}
 
-pub first_cong : {A : Type 0} (n : ℕ) (f g : ℕ → Option A) → ((i : ℕ) → i < n → f i ≡ g i) → first n f ≡ first n g
-unfolding first
+pub first_cong : {A : Type 0} (n : ℕ) (f g : ℕ → Option A) → ((i : ℕ) → i < n → f i ≡ g i) → first_met n f ≡ first_met n g
+unfolding first_met
 first_cong zero f g h = refl
 first_cong (suc n) f g h = rw (first_cong n f g (λ i lt. h i (omega arith)), h n (omega arith))
 

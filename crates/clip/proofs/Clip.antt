@@ -1,5 +1,5 @@
--- A section whose build meets no refusal: both kinds are sound, and "Reached plus loose is the number of additional bone and morph records".
--- Assumes nothing.
+-- A section whose build meets no refusal: neither kind's does, so both are sound (Sound), and "Reached plus loose is the number of
+-- additional bone and morph records" holds of both together (Reached). Assumes nothing.
 use Prim.Native.Nat.{ℕ, ◌+◌}
 use native.Mathlib.Omega.{arith}
 use mathlib.Core.List.{List}

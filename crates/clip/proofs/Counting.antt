@@ -1,4 +1,5 @@
--- Laws of counting (specs, First): so many numbers below n pass a test. Assumes nothing.
+-- How many numbers below n pass a test (specs, First), by induction on n. The members of a list without repeats are as many as it is long
+-- (`number-member`), those of lists that share none as many as the lists are together (`number-any`). Assumes nothing.
 use Prim.Native.Nat.{ℕ, zero, suc, ◌+◌, ◌≤◌, ◌<◌}
 use native.Mathlib.Omega.{arith}
 use mathlib.Core.Bool.{Bool, true, false, cond, not, ◌||◌, ◌&&◌}

@@ -1,4 +1,5 @@
--- The walk along a chain ends before its bound is used up: a greater bound changes nothing. Assumes nothing.
+-- The walk along a chain ends before its bound is used up, so a greater bound changes nothing: the records visited are distinct, so they
+-- are never more than all records. Assumes nothing.
 use Prim.Native.Nat.{ℕ, zero, suc, ◌+◌, ◌<◌}
 use native.Mathlib.Omega.{arith}
 use mathlib.Core.Bool.{Bool, true, false, cond, not}

@@ -1,5 +1,5 @@
--- What holds of the records, names and states of a section that was read: counts are within the limits, the names were read, and the blocks of
--- records and the states stand one behind the other in the lent bytes. Assumes nothing.
+-- A section that was read, taken back step by step (layout, Inversion): each part begins where the one before ends, so the records and the
+-- states stand one behind the other, and in the lent bytes, since the ending behind them was read. Assumes nothing.
 use Prim.Native.Nat.{ℕ, zero, suc, ◌+◌, ◌*◌, ◌≤◌}
 use native.Mathlib.Nat.{suc-mul, zero-mul}
 use native.Mathlib.Omega.{arith}
@@ -15,7 +15,7 @@ use Rattle.layout.specs.Records.{size, initial, additional, bone, morph, model, 
 use Rattle.layout.proofs.Inversion.{Reads, came, counted, same-value, item-fits}
 use Rattle.layout.proofs.Steps.{read_as}
 use Rattle.section.specs.declared.limits.Limits.{Limits}
-use Rattle.section.specs.Model.{opening, names, entries, counts, view, scroll, front, keyframes, keyframe_blocks, states, ending, model_parts, model_section}
+use Rattle.section.specs.Model.{opening, names, counted_block, counts, view, scroll, front, keyframes, keyframe_blocks, states, ending, model_parts, model_section}
 use Rattle.section.specs.declared.opening.Opening.{Opening}
 use Rattle.section.specs.declared.names.Names.{Names}
 use Rattle.section.specs.declared.names.Counts.{Counts}
@@ -169,8 +169,8 @@ unfolding counts
 counts-read limits s at c next e =
     let bones = came (names limits.tracks s at) _ c next e in
     let morphs = came (names limits.tracks s bones.at) _ c next bones.rest in
-    let constraints = came (entries s morphs.at) _ c next morphs.rest in
-    let parents = came (entries s constraints.at) _ c next constraints.rest in
+    let constraints = came (counted_block s morphs.at) _ c next morphs.rest in
+    let parents = came (counted_block s constraints.at) _ c next constraints.rest in
     let made : Counts = record { bones = bones.value; morphs = morphs.value; constraints = constraints.value; parents = parents.value } in
     let is : made ≡ c = same-value parents.rest in
     subst (λ (c : Counts). BothRead limits s c) is
@@ -243,7 +243,7 @@ ending-within s at v next e =
 
 pub blocks : (limits : Limits) (s : List ℕ) (start : ℕ) (m : Model) (end : ℕ) → model_section limits s start ≡ fine m end → Blocks limits s m
 unfolding model_section model_parts
-blocks limits s start m end e = go (ltb limits.length (length s)) e
+blocks limits s start m end e = go (ltb limits.bytes (length s)) e
   where
     parts : model_parts limits s start ≡ fine m end → Blocks limits s m
     parts e =

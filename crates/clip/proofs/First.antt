@@ -1,4 +1,5 @@
--- Laws of what is met first, found and counted (specs, First). Assumes nothing.
+-- What is met first, found or passed among 0, .., n - 1 (specs, First), by induction on n: a number below n + 1 is the last one or is below
+-- it (`below_suc`). Assumes nothing.
 use Prim.Native.Nat.{ℕ, zero, suc, ◌+◌, ◌<◌}
 use native.Mathlib.Numerals.{add-one}
 use native.Mathlib.Decide.{ℕ_discrete}
@@ -6,7 +7,7 @@ use native.Mathlib.Omega.{arith}
 use mathlib.Core.Bool.{Bool, true, false, ◌||◌}
 use mathlib.Core.Option.{Option, none, some}
 use mathlib.Core.Path.{◌≡◌, refl, subst}
-use Rattle.clip.specs.First.{given, ◌or◌, first, any}
+use Rattle.clip.specs.First.{given, ◌or◌, first_met, any}
 
 -- A number below the next one: it is the last, or below it.
 pub below_suc : {P : Type 0} (i n : ℕ) → i < suc n → (i ≡ n → P) → (i < n → P) → P
@@ -50,17 +51,17 @@ module _ {A : Type 0} where
   given-some true a c e = (refl, cc)
   given-some false a c e = absurd (let z : ◌≡◌ {A = ℕ} 0 1 = cc in omega arith)
 
-  pub first-none : (n : ℕ) (f : ℕ → Option A) → first n f ≡ none → (i : ℕ) → i < n → f i ≡ none
-  unfolding first
+  pub first-none : (n : ℕ) (f : ℕ → Option A) → first_met n f ≡ none → (i : ℕ) → i < n → f i ≡ none
+  unfolding first_met
   first-none zero f e i lt = absurd (omega arith)
   first-none (suc n) f e i lt =
-      let both = or-none (first n f) (f n) e in
+      let both = or-none (first_met n f) (f n) e in
       below_suc i n lt (λ last. rw last both.1) (λ less. first-none n f both.0 i less)
 
-  pub none_first : (n : ℕ) (f : ℕ → Option A) → ((i : ℕ) → i < n → f i ≡ none) → first n f ≡ none
-  unfolding first
+  pub none_first : (n : ℕ) (f : ℕ → Option A) → ((i : ℕ) → i < n → f i ≡ none) → first_met n f ≡ none
+  unfolding first_met
   none_first zero f h = refl
-  none_first (suc n) f h = none_or (first n f) (f n) (none_first n f (λ i lt. h i (omega arith))) (h n (omega arith))
+  none_first (suc n) f h = none_or (first_met n f) (f n) (none_first n f (λ i lt. h i (omega arith))) (h n (omega arith))
 
   -- What was found stands somewhere below.
   pub record Found (n : ℕ) (f : ℕ → Option A) (a : A) : Type 0 where
@@ -68,18 +69,18 @@ module _ {A : Type 0} where
     pub below : place < n
     pub is : f place ≡ some a
 
-  pub first_some : (n : ℕ) (f : ℕ → Option A) (a : A) → first n f ≡ some a → Found n f a
-  unfolding first
+  pub first_some : (n : ℕ) (f : ℕ → Option A) (a : A) → first_met n f ≡ some a → Found n f a
+  unfolding first_met
   first_some zero f a e = absurd (let z : ◌≡◌ {A = ℕ} 0 1 = cc in omega arith)
-  first_some (suc n) f a e = go (first n f) (first_some n f a) e
+  first_some (suc n) f a e = go (first_met n f) (first_some n f a) e
     where
       go : (x : Option A) → (x ≡ some a → Found n f a) → (x or f n) ≡ some a → Found (suc n) f a
       go none earlier e = record { place = n; below = omega arith; is = e }
       go (some b) earlier e = let at = earlier e in record { place = at.place; below = omega (arith, at.below); is = at.is }
 
   -- The only one that there is, is found.
-  pub first-only : (n : ℕ) (f : ℕ → Option A) (a : A) (i : ℕ) → i < n → f i ≡ some a → ((j : ℕ) → j < n → (j ≡ i → ⊥) → f j ≡ none) → first n f ≡ some a
-  unfolding first
+  pub first-only : (n : ℕ) (f : ℕ → Option A) (a : A) (i : ℕ) → i < n → f i ≡ some a → ((j : ℕ) → j < n → (j ≡ i → ⊥) → f j ≡ none) → first_met n f ≡ some a
+  unfolding first_met
   first-only zero f a i lt e h = absurd (omega arith)
   first-only (suc n) f a i lt e h =
       below_suc i n lt
@@ -119,14 +120,14 @@ module _ (f : ℕ → Bool) where
       (λ last. record { place = n; below = omega arith; is = last })
 
 -- The first that is met after none was met before.
-pub first-met : {A : Type 0} (n : ℕ) (f : ℕ → Option A) (i : ℕ) (a : A) → i < n → first i f ≡ none → f i ≡ some a → first n f ≡ some a
-unfolding first
+pub first-met : {A : Type 0} (n : ℕ) (f : ℕ → Option A) (i : ℕ) (a : A) → i < n → first_met i f ≡ none → f i ≡ some a → first_met n f ≡ some a
+unfolding first_met
 first-met zero f i a lt before is = absurd (omega arith)
 first-met (suc n) f i a lt before is =
     below_suc i n lt
-    (λ last. rw (subst (λ k. first k f ≡ none) last before) (subst (λ k. f k ≡ some a) last is))
+    (λ last. rw (subst (λ k. first_met k f ≡ none) last before) (subst (λ k. f k ≡ some a) last is))
     (λ less. rw (first-met n f i a less before is))
 
-pub first_more : {A : Type 0} (n : ℕ) (f : ℕ → Option A) → first n f ≡ none → f n ≡ none → first (n + 1) f ≡ none
-unfolding first
+pub first_more : {A : Type 0} (n : ℕ) (f : ℕ → Option A) → first_met n f ≡ none → f n ≡ none → first_met (n + 1) f ≡ none
+unfolding first_met
 first_more n f before is = rw (add-one, before) is

@@ -1,4 +1,5 @@
--- The walk along a chain gives the chain, and it ends. Assumes nothing.
+-- The walk gives a list exactly where it is a chain (Chained). A chain has no repeats, so none of its records was visited before; so it has
+-- no more than there are, and the walk's bound is not used up. Assumes nothing.
 use Prim.Native.Nat.{ℕ, zero, suc, ◌<◌}
 use native.Mathlib.Omega.{arith}
 use mathlib.Core.Bool.{Bool, true, false, cond, not, ◌||◌}

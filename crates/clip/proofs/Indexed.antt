@@ -1,5 +1,5 @@
--- The index scan passes exactly where the indices are in range and distinct; then the record of an index is the one that bears it.
--- Assumes nothing.
+-- Each record's index is one that no earlier record has, so no two are alike: the index scan passes exactly where indices are in range and
+-- distinct, and then the record found for an index is the only one that bears it. Assumes nothing.
 use Prim.Native.Nat.{ℕ, ◌≤◌, ◌<◌}
 use native.Mathlib.Decide.{ℕ_discrete, dec_lt}
 use native.Mathlib.Omega.{arith}

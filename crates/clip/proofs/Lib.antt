@@ -7,6 +7,7 @@ pub mod Walked
 pub mod Ends
 pub mod Sound
 pub mod Reached
+pub mod Isolated
 pub mod Matched
 pub mod Facts
 pub mod Shared

@@ -1,5 +1,5 @@
--- Demand 3 for the records of one kind: the second's build is accepted exactly when its unpaired records are idle, and then each track has
--- the same keys. Assumes nothing.
+-- Demand 3 for the records of one kind. Pairing carries the first's chains over to the second, and a track has one chain at most: so an
+-- unpaired record is in none and has to be isolated, and where all of them are the second is sound, with the same keys. Assumes nothing.
 use Prim.Native.Nat.{ℕ, ◌<◌}
 use native.Mathlib.Decide.{ℕ_discrete}
 use native.Mathlib.Omega.{arith}
@@ -15,11 +15,12 @@ use Rattle.clip.specs.First.{any, member}
 use Rattle.clip.specs.Fields.{Records, Kind}
 use Rattle.clip.specs.Keys.{KeyTest}
 use Rattle.clip.specs.Build.{record_key, keys, build_refusal}
-use Rattle.clip.specs.Matched.{Matched, UnpairedIdle}
+use Rattle.clip.specs.Matched.{Matched, UnpairedIsolated}
 use Rattle.clip.proofs.First.{contrary, or-true, true-or, any-true, any_false}
 use Rattle.clip.proofs.Counting.{AllBelow}
 use Rattle.clip.specs.Scan.{Indexed}
 use Rattle.clip.proofs.Chained.{Chained, all-below}
+use Rattle.clip.proofs.Isolated.{isolated}
 use Rattle.clip.proofs.Follow.{chain-is, answer-is}
 use Rattle.clip.proofs.Sound.{KeysPass, keys_of, Sound, sound, builds, chain-of}
 
@@ -84,18 +85,11 @@ module _ {B : Type 0} (r₁ r₂ : Records B) (m : Matched r₁ r₂) where
         let lt : t < r₁.tracks = rw m.tracks lt₂ in
         subst (λ next. Chained r₂ t next (map m.pair (s₁.of t))) (ap (λ i. i.next) (m.initial t lt)) (carried (s₁.of t) t (r₁.initial t).next (s₁.chained t lt))
 
-    unpaired-idle : Sound test r₂ → UnpairedIdle m
+    unpaired-isolated : Sound test r₂ → UnpairedIsolated m
     unfolding of₂
-    unpaired-idle s₂ q lt unpaired =
+    unpaired-isolated s₂ q lt unpaired =
         let links = s₂.idle q lt (λ t is. out t is (member q (s₂.of t)) refl) in
-        let low = s₂.indexed.positive q lt in
-        record {
-          previous = links.0;
-          next = links.1;
-          positive = lt-leb least_negative (r₂.at q).index (omega (arith, low));
-          above = s₂.indexed.above q lt;
-          alone = λ p lp other same. other (s₂.indexed.apart p q lp lt same);
-        }
+        isolated r₂ s₂.indexed q lt links.0 links.1
       where
         out : (t : ℕ) → t < r₂.tracks → (b : Bool) → member q (s₂.of t) ≡ b → b ≡ false
         out t is false e = refl
@@ -109,7 +103,7 @@ module _ {B : Type 0} (r₁ r₂ : Records B) (m : Matched r₁ r₂) where
             absurd (unpaired from.source from.below from.is)
 
     -- The second's indices are those of the first, and those of idle records.
-    indexed₂ : UnpairedIdle m → Indexed r₂
+    indexed₂ : UnpairedIsolated m → Indexed r₂
     indexed₂ idle =
         record {
           positive = λ q lt. split q
@@ -132,7 +126,7 @@ module _ {B : Type 0} (r₁ r₂ : Records B) (m : Matched r₁ r₂) where
         same q k (yes e) h = e
         same q k (no ne) h = absurd (h ne)
 
-    idle-sound : UnpairedIdle m → Sound test r₂
+    idle-sound : UnpairedIsolated m → Sound test r₂
     unfolding of₂
     idle-sound idle =
         record {
@@ -156,8 +150,8 @@ module _ {B : Type 0} (r₁ r₂ : Records B) (m : Matched r₁ r₂) where
             let inside = member-map m.pair from.source (s₁.of t) e in
             contrary (member q (map m.pair (s₁.of t))) (subst (λ k. member k (map m.pair (s₁.of t)) ≡ true) from.is inside) out
 
-    pub accepted-exactly : (build_refusal kind test r₂ ≡ none) ↔ UnpairedIdle m
-    accepted-exactly = (λ e. unpaired-idle (sound kind test r₂ e), λ idle. builds kind test r₂ (idle-sound idle))
+    pub accepted-exactly : (build_refusal kind test r₂ ≡ none) ↔ UnpairedIsolated m
+    accepted-exactly = (λ e. unpaired-isolated (sound kind test r₂ e), λ idle. builds kind test r₂ (idle-sound idle))
 
     -- Each track has the same keys.
     pub same-tracks : Sound test r₂ → (t : ℕ) → t < r₁.tracks → keys kind r₁ t ≡ keys kind r₂ t

@@ -1,5 +1,5 @@
--- "Reached plus loose is the number of additional bone and morph records", for a kind that is sound; each record lies in one chain, or is loose
--- and in none. Assumes nothing.
+-- "Reached plus loose is the number of additional bone and morph records": chains share no record, so they hold as many as links were
+-- followed; any other record is loose or counted in 15, and of a kind that is sound none is counted there. Assumes nothing.
 use Prim.Native.Nat.{ℕ, ◌+◌, ◌≤◌, ◌<◌}
 use native.Mathlib.Omega.{arith}
 use mathlib.Core.Bool.{true}

@@ -1,4 +1,5 @@
--- 9 is never met: chains that pass share no record, whether the build is accepted or not. Assumes nothing.
+-- 9 is never met: indices that pass the scan are distinct, so chains that pass share no record (Chained), whether the build is accepted or
+-- not; and every other refusal has another number. Assumes nothing.
 use Prim.Native.Nat.{ℕ, zero, suc, ◌<◌}
 use native.Mathlib.Omega.{arith}
 use mathlib.Core.Bool.{Bool, true, false, cond, not}
@@ -12,7 +13,7 @@ use Rattle.layout.specs.Refusals.{missing_link, cycle, wrong_previous}
 use Rattle.layout.specs.Numbers.{signed, negative}
 use Rattle.layout.specs.Walk.{Refusal, refusal, Answer, answered, declined}
 use Rattle.section.specs.declared.model.Model.{Model}
-use Rattle.clip.specs.First.{given, ◌or◌, first, any, member}
+use Rattle.clip.specs.First.{given, ◌or◌, first_met, any, member}
 use Rattle.clip.specs.Fields.{BoneBody, Records, Kind, bone, morph, refusal_of}
 use Rattle.clip.specs.Scan.{index_refusal, scan, Indexed}
 use Rattle.clip.specs.Chain.{unless, found, with, follow, chain}
@@ -46,10 +47,10 @@ given-not-nine : (b : Bool) (kind : Kind) (number : ℕ) (values : List ℤ) →
 given-not-nine true kind number values h = met (refusal_of kind number values) h
 given-not-nine false kind number values h = nothing-met
 
-first-not-nine : (n : ℕ) (f : ℕ → Option Refusal) → ((i : ℕ) → i < n → NotNine (f i)) → NotNine (first n f)
-unfolding first
+first-not-nine : (n : ℕ) (f : ℕ → Option Refusal) → ((i : ℕ) → i < n → NotNine (f i)) → NotNine (first_met n f)
+unfolding first_met
 first-not-nine zero f h = nothing-met
-first-not-nine (suc n) f h = or-not-nine (first n f) (f n) (first-not-nine n f (λ i lt. h i (omega arith))) (λ e. h n (omega arith))
+first-not-nine (suc n) f h = or-not-nine (first_met n f) (f n) (first-not-nine n f (λ i lt. h i (omega arith))) (λ e. h n (omega arith))
 
 -- A chain's refusals.
 abbrev NineFree : Answer (List ℕ) → Type 0
@@ -120,8 +121,8 @@ module _ {B : Type 0} (kind : Kind) (test : KeyTest B) (tested : (t : ℕ) (befo
   pub never-nine : NotNine (build_refusal kind test r)
   unfolding build_refusal scan
   never-nine =
-      or-not-nine (first r.additional (index_refusal kind r)) _ (first-not-nine r.additional (index_refusal kind r) (λ p lt. index-not-nine kind r p)) (λ scans.
-      or-not-nine (first r.tracks (track_refusal kind test r)) _ (first-not-nine r.tracks (track_refusal kind test r) (track-not-nine (scanned kind r scans))) (λ e.
+      or-not-nine (first_met r.additional (index_refusal kind r)) _ (first-not-nine r.additional (index_refusal kind r) (λ p lt. index-not-nine kind r p)) (λ scans.
+      or-not-nine (first_met r.tracks (track_refusal kind test r)) _ (first-not-nine r.tracks (track_refusal kind test r) (track-not-nine (scanned kind r scans))) (λ e.
       given-not-nine (ltb 0 (disconnected kind r)) kind 15 _ (λ (e : 15 ≡ 9). omega arith)))
 
 -- What is asked of a key is never 9 either.

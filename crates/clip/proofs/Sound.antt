@@ -1,5 +1,5 @@
--- A build is accepted exactly where the records are sound, and that is said without any walk: indices in range and distinct, a chain for each
--- track, keys that pass, and both links 0 in every record that no chain holds. So 9 is never met. Assumes nothing.
+-- A build is accepted exactly where the records are sound, said without any walk: indices in range and distinct, a chain for each track,
+-- keys that pass, and both links 0 in every record that no chain holds. Such chains share no record, so 9 is never met. Assumes nothing.
 use Prim.Native.Nat.{ℕ, ◌<◌}
 use native.Mathlib.Omega.{arith}
 use mathlib.Core.Bool.{Bool, true, false, not, ◌&&◌}
@@ -12,7 +12,7 @@ use lib.IntN.{pos}
 use Rattle.layout.specs.Refusals.{shared_record, disconnected_records}
 use Rattle.layout.specs.Numbers.{signed}
 use Rattle.layout.specs.Walk.{Refusal, Answer, answered, declined}
-use Rattle.clip.specs.First.{given, ◌or◌, first, member}
+use Rattle.clip.specs.First.{given, ◌or◌, first_met, member}
 use Rattle.clip.specs.Fields.{Records, Kind, refusal_of}
 use Rattle.clip.specs.Scan.{scan, Indexed}
 use Rattle.clip.specs.Chain.{chain}
@@ -117,8 +117,8 @@ module _ {B : Type 0} (kind : Kind) (test : KeyTest B) (r : Records B) where
   sound e =
       let n = disconnected kind r in
       let r15 = refusal_of kind disconnected_records (pos n ∷ []) in
-      let front = or-none (scan kind r) (first r.tracks (track_refusal kind test r) or given (ltb 0 n) r15) e in
-      let back = or-none (first r.tracks (track_refusal kind test r)) (given (ltb 0 n) r15) front.1 in
+      let front = or-none (scan kind r) (first_met r.tracks (track_refusal kind test r) or given (ltb 0 n) r15) e in
+      let back = or-none (first_met r.tracks (track_refusal kind test r)) (given (ltb 0 n) r15) front.1 in
       let few = ltb-false 0 n (given-none (ltb 0 n) r15 back.1) in
       record {
         indexed = scanned kind r front.0;

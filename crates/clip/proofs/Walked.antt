@@ -1,5 +1,5 @@
--- A walk along a chain, stopped after some records: what the chain then is. A record whose previous link is the one expected was not
--- visited before, because its only predecessor would have been visited twice. Assumes nothing.
+-- What a chain is once a walk has passed some records: these, then what follows (`so_far`), so what ends the walk ends the chain. A record
+-- whose previous link is the one expected was not visited before: its only predecessor would have been visited twice. Assumes nothing.
 use Prim.Native.Nat.{ℕ, suc, ◌+◌, ◌-◌, ◌≤◌, ◌<◌}
 use native.Mathlib.Nat.{suc-add, zero-add}
 use native.Mathlib.Omega.{arith}

@@ -1,14 +1,9 @@
--- Document 01, "Build order", for one kind. Definitions only.
+-- Document 01, "Build order" (FORMAT, The build), for one kind.
 use Rattle.std.specs.Prelude.{ℕ, Bool, not, ◌&&◌, List, [], ◌∷◌, map, eqb, ltb, pos, length}
 use Rattle.std.proofs.Math.Option.{Option, none, some}
-use Rattle.layout.specs.Refusals.{shared_record, disconnected_records}
-use Rattle.layout.specs.Numbers.{signed}
-use Rattle.layout.specs.Walk.{Refusal, Answer, answered, declined}
-use Rattle.clip.specs.First.{given, ◌or◌, first, any, number, member, total}
-use Rattle.clip.specs.Fields.{Initial, Additional, Records, Kind, refusal_of}
-use Rattle.clip.specs.Scan.{scan}
-use Rattle.clip.specs.Chain.{chain}
-use Rattle.clip.specs.Keys.{Key, KeyTest}
+use Rattle.layout.specs.{Refusals.{shared_record, disconnected_records}, Numbers.{signed}, Walk.{Refusal, Answer, answered, declined}}
+use Rattle.clip.specs.First.{given, ◌or◌, first_met, any, number, member, total}
+use Rattle.clip.specs.{Fields.{Initial, Additional, Records, Kind, refusal_of}, Scan.{scan}, Chain.{chain}, Keys.{Key, KeyTest}}
 
 abbrev pub initial_key : {B : Type 0} → Initial B → Key B
 initial_key i = record { frame = i.frame; body = i.body }
@@ -47,7 +42,7 @@ module _ {B : Type 0} (kind : Kind) (r : Records B) where
   unfoldable pub disconnected : ℕ
   disconnected = number r.additional (λ p. not (reached p) && not (both_links_zero p))
 
-  -- "reached (links followed) and loose (unreached additional records, both links 0)"
+  -- "reached (links followed) and loose (unreached additional records, both links 0)"; the words are document 01's
   unfoldable pub links_followed : ℕ
   links_followed = total r.tracks (λ t. length (chain_of t))
 
@@ -74,5 +69,5 @@ module _ {B : Type 0} (kind : Kind) (test : KeyTest B) (r : Records B) where
   unfoldable pub build_refusal : Option Refusal
   build_refusal =
       scan kind r
-      or first r.tracks track_refusal
+      or first_met r.tracks track_refusal
       or given (ltb 0 (disconnected kind r)) (refusal_of kind disconnected_records (pos (disconnected kind r) ∷ []))

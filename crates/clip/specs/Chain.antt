@@ -1,12 +1,8 @@
--- Document 01, module 4: the chain of a track, as positions of additional records in chain order. Definitions only.
+-- Document 01, module 4 (FORMAT, The build): the chain of a track, as positions of additional records in chain order.
 use Rattle.std.specs.Prelude.{ℕ, zero, suc, cond, not, List, [], ◌∷◌, eqb, pos}
 use Rattle.std.proofs.Math.Option.{Option, none, some}
-use Rattle.layout.specs.Refusals.{missing_link, cycle, wrong_previous}
-use Rattle.layout.specs.Numbers.{signed}
-use Rattle.layout.specs.Walk.{Refusal, Answer, answered, declined}
-use Rattle.clip.specs.First.{given, ◌or◌, member}
-use Rattle.clip.specs.Fields.{Records, Kind, refusal_of}
-use Rattle.clip.specs.Scan.{record_of}
+use Rattle.layout.specs.{Refusals.{missing_link, cycle, wrong_previous}, Numbers.{signed}, Walk.{Refusal, Answer, answered, declined}}
+use Rattle.clip.specs.{First.{given, ◌or◌, member}, Fields.{Records, Kind, refusal_of}, Scan.{record_of}}
 
 module _ {A : Type 0} where
   -- What is answered unless a refusal is met before it.

@@ -1,4 +1,4 @@
--- Document 01, "Build fields": what a record gives to a clip. A number is the 32 bits that are read. Definitions only.
+-- Document 01, "Build fields" (FORMAT, What a build takes): what a record gives to a clip. A number is the 32 bits that are read.
 use Rattle.std.specs.Prelude.{ℕ, List, ◌∷◌, ℤ, pos}
 use Rattle.layout.specs.Walk.{Refusal, refusal}
 
@@ -31,7 +31,7 @@ pub record Records (B : Type 0) : Type 0 where
   pub additional : ℕ
   pub at : ℕ → Additional B
 
--- "3 to 11 and 15 also say bone or morph": before the other values.
+-- "3 to 11 and 15 also say bone or morph" (FORMAT, Refusals): before the other values.
 pub data Kind : Type 0 where
   bone : Kind
   morph : Kind

@@ -1,5 +1,5 @@
--- Document 01, "Build order": "The first refusal met ends the whole walk." What is met first of several things, and what is found
--- among the numbers from 0 on. Definitions only.
+-- Document 01, "Build order" (FORMAT, The build): "The first refusal met ends the whole walk." What is met first of several things, and
+-- what is found among the numbers from 0 on.
 use Rattle.std.specs.Prelude.{ℕ, zero, suc, ◌+◌, Bool, true, false, cond, ◌||◌, List, [], ◌∷◌, eqb}
 use Rattle.std.proofs.Math.Option.{Option, none, some}
 
@@ -14,9 +14,9 @@ module _ {A : Type 0} where
   some a or y = some a
 
   -- Of f 0, f 1, .., f (n - 1).
-  unfoldable pub first : ℕ → (ℕ → Option A) → Option A
-  first zero f = none
-  first (suc n) f = first n f or f n
+  unfoldable pub first_met : ℕ → (ℕ → Option A) → Option A
+  first_met zero f = none
+  first_met (suc n) f = first_met n f or f n
 
 -- Whether one of the numbers below n passes, and how many do.
 unfoldable pub any : ℕ → (ℕ → Bool) → Bool

@@ -1,14 +1,12 @@
--- Document 01, "Build order" and "Turned down": what is asked of each key. Definitions only.
+-- Document 01, "Build order" and "Turned down" (FORMAT, The build): what is asked of each key.
 use Rattle.std.specs.Prelude.{ℕ, Bool, true, false, not, ◌&&◌, ◌||◌, List, [], ◌∷◌, pos, negsuc, Float}
 use Rattle.std.proofs.Math.Option.{Option, none, some}
 use Rattle.std.specs.Float.{nan, inf, fin, binary32}
 use Rattle.std.specs.Float.Ieee.{add, mul, le}
 use Rattle.layout.specs.Refusals.{negative_frame, repeated_frame, invalid_translation, invalid_orientation, invalid_weight}
-use Rattle.layout.specs.Numbers.{signed, negative, float}
-use Rattle.layout.specs.Walk.{Refusal, refusal, u32_at}
+use Rattle.layout.specs.{Numbers.{signed, negative, float}, Walk.{Refusal, refusal, u32_at}}
 use Rattle.records.specs.declared.pose.Pose.{Pose}
-use Rattle.clip.specs.First.{given, ◌or◌, member}
-use Rattle.clip.specs.Fields.{BoneBody, Kind, bone, morph, refusal_of}
+use Rattle.clip.specs.{First.{given, ◌or◌, member}, Fields.{BoneBody, Kind, bone, morph, refusal_of}}
 
 pub record Key (B : Type 0) : Type 0 where
   pub frame : ℕ
@@ -24,11 +22,14 @@ body_refusal none track frame = none
 body_refusal (some number) track frame = some (refusal number (pos track ∷ signed frame ∷ []))
 
 -- "10 negative frame (track, frame). 11 frame repeated in a track (track, frame)." Then what is asked of the body.
+abbrev pub key_refusal : Kind → Bool → Option ℕ → ℕ → ℕ → Option Refusal
+key_refusal kind repeated asked track frame =
+    given (negative frame) (refusal_of kind negative_frame (pos track ∷ signed frame ∷ []))
+    or given repeated (refusal_of kind repeated_frame (pos track ∷ signed frame ∷ []))
+    or body_refusal asked track frame
+
 unfoldable pub key_test : {B : Type 0} → Kind → (B → Option ℕ) → KeyTest B
-key_test kind asked track before key =
-    given (negative key.frame) (refusal_of kind negative_frame (pos track ∷ signed key.frame ∷ []))
-    or given (member key.frame before) (refusal_of kind repeated_frame (pos track ∷ signed key.frame ∷ []))
-    or body_refusal (asked key.body) track key.frame
+key_test kind asked track before key = key_refusal kind (member key.frame before) (asked key.body) track key.frame
 
 abbrev pub finite : Float → Bool
 finite nan = false

@@ -1,4 +1,4 @@
--- Demand 3's hypotheses about the records of one kind in two sections. Definitions only.
+-- Demand 3's hypotheses (FORMAT, Two sections, one strip) about the records of one kind in two sections.
 use Rattle.std.specs.Prelude.{ℕ, ◌≤◌, ◌<◌, false, ◌≡◌}
 use Rattle.layout.specs.Numbers.{negative}
 use Rattle.clip.specs.Fields.{Records}
@@ -17,7 +17,7 @@ module _ {B : Type 0} (r₁ r₂ : Records B) where
 
 -- "has both links zero and an index not below its kind's count and borne by no other of its kind": a negative index is below, and the
 -- others are all additional records of the kind, paired ones included.
-pub record Idle {B : Type 0} (r : Records B) (q : ℕ) : Type 0 where
+pub record Isolated {B : Type 0} (r : Records B) (q : ℕ) : Type 0 where
   pub previous : (r.at q).previous ≡ 0
   pub next : (r.at q).next ≡ 0
   pub positive : negative (r.at q).index ≡ false
@@ -26,5 +26,5 @@ pub record Idle {B : Type 0} (r : Records B) (q : ℕ) : Type 0 where
 
 module _ {B : Type 0} {r₁ r₂ : Records B} (m : Matched r₁ r₂) where
   -- "each of its unpaired additional bone and morph records"
-  abbrev pub UnpairedIdle : Type 0
-  UnpairedIdle = (q : ℕ) → q < r₂.additional → ((p : ℕ) → p < r₁.additional → m.pair p ≡ q → ⊥) → Idle r₂ q
+  abbrev pub UnpairedIsolated : Type 0
+  UnpairedIsolated = (q : ℕ) → q < r₂.additional → ((p : ℕ) → p < r₁.additional → m.pair p ≡ q → ⊥) → Isolated r₂ q

@@ -1,12 +1,10 @@
--- Document 01, module 3 and "Turned down": the index scan of the additional records, in file order, and the record of an index.
--- Definitions only.
+-- Document 01, module 3 and "Turned down" (FORMAT, The build): the index scan of the additional records, in file order, and the record of
+-- an index.
 use Rattle.std.specs.Prelude.{ℕ, ◌≤◌, ◌<◌, [], ◌∷◌, ◌≡◌, eqb, ltb, pos}
 use Rattle.std.proofs.Math.Option.{Option}
-use Rattle.layout.specs.Refusals.{negative_index, index_below_count, repeated_index}
-use Rattle.layout.specs.Numbers.{signed, least_negative, negative}
+use Rattle.layout.specs.{Refusals.{negative_index, index_below_count, repeated_index}, Numbers.{signed, least_negative, negative}}
 use Rattle.layout.specs.Walk.{Refusal}
-use Rattle.clip.specs.First.{given, ◌or◌, first, any}
-use Rattle.clip.specs.Fields.{Records, Kind, refusal_of}
+use Rattle.clip.specs.{First.{given, ◌or◌, first_met, any}, Fields.{Records, Kind, refusal_of}}
 
 module _ {B : Type 0} (kind : Kind) (r : Records B) where
   -- "3 index negative (index). 4 index below its kind's count (index, count). 5 index repeated (index)."
@@ -18,11 +16,11 @@ module _ {B : Type 0} (kind : Kind) (r : Records B) where
       or given (any position (λ p. eqb (r.at p).index index)) (refusal_of kind repeated_index (signed index ∷ []))
 
   unfoldable pub scan : Option Refusal
-  scan = first r.additional index_refusal
+  scan = first_met r.additional index_refusal
 
 -- The position of the record that bears an index.
 unfoldable pub record_of : {B : Type 0} → Records B → ℕ → Option ℕ
-record_of r index = first r.additional (λ p. given (eqb (r.at p).index index) p)
+record_of r index = first_met r.additional (λ p. given (eqb (r.at p).index index) p)
 
 -- What holds of records that pass the scan.
 module _ {B : Type 0} (r : Records B) where

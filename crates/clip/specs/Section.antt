@@ -1,14 +1,10 @@
--- The build fields of a model section's records, by document 01's record table, and the build of a section. Definitions only.
+-- The build fields of a model section's records, by document 01's record table (FORMAT, What a build takes), and the build of a section.
 use Rattle.std.specs.Prelude.{ℕ, ◌+◌, ◌*◌, List}
 use Rattle.std.proofs.Math.Option.{Option}
-use Rattle.layout.specs.Walk.{Refusal, u32_at, bytes_at}
-use Rattle.layout.specs.Records.{size}
+use Rattle.layout.specs.{Walk.{Refusal, u32_at, bytes_at}, Records.{size}}
 use Rattle.layout.specs.Records as Table
-use Rattle.section.specs.declared.keyframes.Keyframes.{Keyframes}
-use Rattle.section.specs.declared.model.Model.{Model}
-use Rattle.clip.specs.First.{◌or◌}
-use Rattle.clip.specs.Fields.{Initial, Additional, BoneBody, Records, bone, morph}
-use Rattle.clip.specs.Keys.{bone_test, morph_test}
+use Rattle.section.specs.declared.{keyframes.Keyframes.{Keyframes}, model.Model.{Model}}
+use Rattle.clip.specs.{First.{◌or◌}, Fields.{Initial, Additional, BoneBody, Records, bone, morph}, Keys.{bone_test, morph_test}}
 use Rattle.clip.specs.Build.{build_refusal, links_followed, loose}
 
 -- "interpolation 16 bytes, translation 3 f32, orientation 4 f32"

@@ -18,8 +18,8 @@
    in this order; 19 is tested after the whole section is read.
 
    The answer's numbers, or the refusal's value, are written into `values` from place 0 on as far as it reaches; later places
-   stay as they were. An i32 is written as its 32-bit pattern (below 2^32), a bool as 0 or 1, an f32 as its bits, any NaN
-   as 0x7fc00000, the index of an initial record, which has none, as 2^64 - 1.
+   stay as they were. An i32 is written as its 32-bit pattern (below 2^32), a bool as 0 or 1, an f32 as the section's own 32
+   bits, those of a NaN too, the index of an initial record, which has none, as 2^64 - 1.
 
    Calls that answer bytes. They return the length of the part and write its bytes into `output` from place 0 on as far as
    it reaches; later places stay as they were. Where the call that answers numbers for the same arguments refuses, the part is empty.

@@ -1,14 +1,14 @@
 // Interpolations: the length is returned, the bytes are written.
 ghost use Rattle.std.specs.Prelude.{take};
 ghost use Rattle.section.specs.Limits.{edition1};
-ghost use Rattle.numbers.specs.Answers.{Hands};
-ghost use Rattle.lists.specs.Keyframes.{bone_keyframe};
-ghost use Rattle.lists.specs.Parts.{payload_or};
-ghost use Rattle.tracks.specs.Camera.{camera_keyframe, curves_part};
+ghost use Rattle.answer_numbers.specs.Answers.{WritesPart};
+ghost use Rattle.entries.specs.Keyframes.{bone_keyframe};
+ghost use Rattle.entries.specs.Parts.{payload_or};
+ghost use Rattle.camera_light.specs.Camera.{camera_keyframe, curves_part};
 
-use lists::interpolation;
-use numbers::put;
-use tracks::camera;
+use answer_numbers::put;
+use camera_light::camera;
+use entries::interpolation;
 
 #[unsafe(no_mangle)]
 pub extern "C" fn limdroven_camera_interpolation(
@@ -18,7 +18,7 @@ pub extern "C" fn limdroven_camera_interpolation(
     number: usize,
     output: &mut [u8],
 ) -> usize
-    ensures { Hands (curves_part (camera_keyframe edition1 include_index number section.now start) section.now) output.old result output.new }
+    ensures { WritesPart (curves_part (camera_keyframe edition1 include_index number section.now start) section.now) output.old result output.new }
 {
     put::put_part(
         output,
@@ -35,7 +35,7 @@ pub extern "C" fn limdroven_bone_interpolation(
     number: usize,
     output: &mut [u8],
 ) -> usize
-    ensures { Hands (take 16 (payload_or (λ b. b.span) (bone_keyframe edition1 include_index number section.now start) section.now)) output.old result output.new }
+    ensures { WritesPart (take 16 (payload_or (λ b. b.span) (bone_keyframe edition1 include_index number section.now start) section.now)) output.old result output.new }
 {
     put::put_part(
         output,

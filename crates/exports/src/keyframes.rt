@@ -1,11 +1,11 @@
 // Bone, morph and model records.
 ghost use Rattle.section.specs.Limits.{edition1};
-ghost use Rattle.numbers.specs.Answers.{Says};
-ghost use Rattle.lists.specs.Keyframes.{bone_keyframe, morph_keyframe, model_keyframe};
-ghost use Rattle.numbers.specs.Keyframes.{bone, morph, model};
+ghost use Rattle.answer_numbers.specs.Answers.{WritesAnswer};
+ghost use Rattle.entries.specs.Keyframes.{bone_keyframe, morph_keyframe, model_keyframe};
+ghost use Rattle.answer_numbers.specs.Keyframes.{bone, morph, model};
 
-use lists::keyframe::Keyframe;
-use numbers::answers;
+use answer_numbers::answers;
+use entries::keyframe::Keyframe;
 use records::bone::PmmDocumentBoneKeyframeSummary;
 use records::model::PmmDocumentModelKeyframeSummary;
 use records::morph::PmmDocumentMorphKeyframeSummary;
@@ -18,7 +18,7 @@ pub extern "C" fn limdroven_bone_keyframe(
     number: usize,
     values: &mut [u64],
 ) -> u32
-    ensures { Says bone (bone_keyframe edition1 include_index number section.now start) values.old result values.new }
+    ensures { WritesAnswer bone (bone_keyframe edition1 include_index number section.now start) values.old result values.new }
 {
     answers::say(
         PmmDocumentBoneKeyframeSummary::read(section, start, include_index, number),
@@ -34,7 +34,7 @@ pub extern "C" fn limdroven_morph_keyframe(
     number: usize,
     values: &mut [u64],
 ) -> u32
-    ensures { Says morph (morph_keyframe edition1 include_index number section.now start) values.old result values.new }
+    ensures { WritesAnswer morph (morph_keyframe edition1 include_index number section.now start) values.old result values.new }
 {
     answers::say(
         PmmDocumentMorphKeyframeSummary::read(section, start, include_index, number),
@@ -50,7 +50,7 @@ pub extern "C" fn limdroven_model_keyframe(
     number: usize,
     values: &mut [u64],
 ) -> u32
-    ensures { Says model (model_keyframe edition1 include_index number section.now start) values.old result values.new }
+    ensures { WritesAnswer model (model_keyframe edition1 include_index number section.now start) values.old result values.new }
 {
     answers::say(
         PmmDocumentModelKeyframeSummary::read(section, start, include_index, number),

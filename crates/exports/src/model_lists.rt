@@ -1,11 +1,11 @@
 // The bools and pairs of a model record.
 ghost use Rattle.section.specs.Limits.{edition1};
-ghost use Rattle.numbers.specs.Answers.{Says};
-ghost use Rattle.lists.specs.ModelLists.{model_keyframe_constraint_state, model_keyframe_outside_parent};
-ghost use Rattle.numbers.specs.States.{flag, pair};
+ghost use Rattle.answer_numbers.specs.Answers.{WritesAnswer};
+ghost use Rattle.entries.specs.ModelLists.{model_keyframe_constraint_state, model_keyframe_outside_parent};
+ghost use Rattle.answer_numbers.specs.States.{flag, pair};
 
-use lists::model_lists;
-use numbers::answers;
+use answer_numbers::answers;
+use entries::model_lists;
 
 #[unsafe(no_mangle)]
 pub extern "C" fn limdroven_model_keyframe_constraint_state(
@@ -16,7 +16,7 @@ pub extern "C" fn limdroven_model_keyframe_constraint_state(
     entry: usize,
     values: &mut [u64],
 ) -> u32
-    ensures { Says flag (model_keyframe_constraint_state edition1 include_index number entry section.now start) values.old result values.new }
+    ensures { WritesAnswer flag (model_keyframe_constraint_state edition1 include_index number entry section.now start) values.old result values.new }
 {
     answers::say(
         model_lists::model_keyframe_constraint_state(section, start, include_index, number, entry),
@@ -33,7 +33,7 @@ pub extern "C" fn limdroven_model_keyframe_outside_parent(
     entry: usize,
     values: &mut [u64],
 ) -> u32
-    ensures { Says pair (model_keyframe_outside_parent edition1 include_index number entry section.now start) values.old result values.new }
+    ensures { WritesAnswer pair (model_keyframe_outside_parent edition1 include_index number entry section.now start) values.old result values.new }
 {
     answers::say(
         model_lists::model_keyframe_outside_parent(section, start, include_index, number, entry),

@@ -1,18 +1,18 @@
 // Payloads: the length is returned, the bytes are written.
 ghost use Rattle.section.specs.Limits.{edition1};
-ghost use Rattle.numbers.specs.Answers.{Hands};
-ghost use Rattle.lists.specs.Keyframes.{bone_keyframe, morph_keyframe, model_keyframe};
-ghost use Rattle.lists.specs.Parts.{payload_or};
-ghost use Rattle.tracks.specs.Camera.{camera_keyframe};
-ghost use Rattle.tracks.specs.Light.{light_keyframe};
+ghost use Rattle.answer_numbers.specs.Answers.{WritesPart};
+ghost use Rattle.entries.specs.Keyframes.{bone_keyframe, morph_keyframe, model_keyframe};
+ghost use Rattle.entries.specs.Parts.{payload_or};
+ghost use Rattle.camera_light.specs.Camera.{camera_keyframe};
+ghost use Rattle.camera_light.specs.Light.{light_keyframe};
 
-use lists::keyframe;
-use numbers::put;
+use answer_numbers::put;
+use camera_light::camera::CameraKeyframeSummary;
+use camera_light::light::LightKeyframeSummary;
+use entries::keyframe;
 use records::bone::PmmDocumentBoneKeyframeSummary;
 use records::model::PmmDocumentModelKeyframeSummary;
 use records::morph::PmmDocumentMorphKeyframeSummary;
-use tracks::camera::CameraKeyframeSummary;
-use tracks::light::LightKeyframeSummary;
 
 #[unsafe(no_mangle)]
 pub extern "C" fn limdroven_bone_payload(
@@ -22,7 +22,7 @@ pub extern "C" fn limdroven_bone_payload(
     number: usize,
     output: &mut [u8],
 ) -> usize
-    ensures { Hands (payload_or (λ b. b.span) (bone_keyframe edition1 include_index number section.now start) section.now) output.old result output.new }
+    ensures { WritesPart (payload_or (λ b. b.span) (bone_keyframe edition1 include_index number section.now start) section.now) output.old result output.new }
 {
     put::put_part(
         output,
@@ -38,7 +38,7 @@ pub extern "C" fn limdroven_morph_payload(
     number: usize,
     output: &mut [u8],
 ) -> usize
-    ensures { Hands (payload_or (λ b. b.span) (morph_keyframe edition1 include_index number section.now start) section.now) output.old result output.new }
+    ensures { WritesPart (payload_or (λ b. b.span) (morph_keyframe edition1 include_index number section.now start) section.now) output.old result output.new }
 {
     put::put_part(
         output,
@@ -54,7 +54,7 @@ pub extern "C" fn limdroven_model_payload(
     number: usize,
     output: &mut [u8],
 ) -> usize
-    ensures { Hands (payload_or (λ b. b.span) (model_keyframe edition1 include_index number section.now start) section.now) output.old result output.new }
+    ensures { WritesPart (payload_or (λ b. b.span) (model_keyframe edition1 include_index number section.now start) section.now) output.old result output.new }
 {
     put::put_part(
         output,
@@ -70,7 +70,7 @@ pub extern "C" fn limdroven_camera_payload(
     number: usize,
     output: &mut [u8],
 ) -> usize
-    ensures { Hands (payload_or (λ b. b.span) (camera_keyframe edition1 include_index number section.now start) section.now) output.old result output.new }
+    ensures { WritesPart (payload_or (λ b. b.span) (camera_keyframe edition1 include_index number section.now start) section.now) output.old result output.new }
 {
     put::put_part(
         output,
@@ -86,7 +86,7 @@ pub extern "C" fn limdroven_light_payload(
     number: usize,
     output: &mut [u8],
 ) -> usize
-    ensures { Hands (payload_or (λ b. b.span) (light_keyframe edition1 include_index number section.now start) section.now) output.old result output.new }
+    ensures { WritesPart (payload_or (λ b. b.span) (light_keyframe edition1 include_index number section.now start) section.now) output.old result output.new }
 {
     put::put_part(
         output,

@@ -1,23 +1,23 @@
 // Where names and the path stand.
 ghost use Rattle.section.specs.Limits.{edition1};
-ghost use Rattle.lists.specs.Texts.{text_of};
-ghost use Rattle.lists.specs.declared.texts.Text.{Text};
-ghost use Rattle.numbers.specs.Answers.{Says};
-ghost use Rattle.numbers.specs.Spans.{span};
+ghost use Rattle.entries.specs.Texts.{text_of};
+ghost use Rattle.entries.specs.declared.texts.Text.{Text};
+ghost use Rattle.answer_numbers.specs.Answers.{WritesAnswer};
+ghost use Rattle.answer_numbers.specs.Spans.{span};
 
-use lists::texts;
-use lists::texts::Text;
-use numbers::answers;
+use answer_numbers::answers;
+use entries::texts;
+use entries::texts::Text;
 
 fn text_span(section: &[u8], start: usize, text: Text, values: &mut [u64]) -> u32
-    ensures { Says span (text_of edition1 text section.now start) values.old result values.new }
+    ensures { WritesAnswer span (text_of edition1 text section.now start) values.old result values.new }
 {
     answers::say(texts::text_span(section, start, text), values)
 }
 
 #[unsafe(no_mangle)]
 pub extern "C" fn limdroven_name_span(section: &[u8], start: usize, values: &mut [u64]) -> u32
-    ensures { Says span (text_of edition1 Text.Name section.now start) values.old result values.new }
+    ensures { WritesAnswer span (text_of edition1 Text.Name section.now start) values.old result values.new }
 {
     text_span(section, start, Text::Name, values)
 }
@@ -28,14 +28,14 @@ pub extern "C" fn limdroven_english_name_span(
     start: usize,
     values: &mut [u64],
 ) -> u32
-    ensures { Says span (text_of edition1 Text.EnglishName section.now start) values.old result values.new }
+    ensures { WritesAnswer span (text_of edition1 Text.EnglishName section.now start) values.old result values.new }
 {
     text_span(section, start, Text::EnglishName, values)
 }
 
 #[unsafe(no_mangle)]
 pub extern "C" fn limdroven_path_span(section: &[u8], start: usize, values: &mut [u64]) -> u32
-    ensures { Says span (text_of edition1 Text.Path section.now start) values.old result values.new }
+    ensures { WritesAnswer span (text_of edition1 Text.Path section.now start) values.old result values.new }
 {
     text_span(section, start, Text::Path, values)
 }
@@ -47,7 +47,7 @@ pub extern "C" fn limdroven_bone_name_span(
     number: usize,
     values: &mut [u64],
 ) -> u32
-    ensures { Says span (text_of edition1 (Text.Bone number) section.now start) values.old result values.new }
+    ensures { WritesAnswer span (text_of edition1 (Text.Bone number) section.now start) values.old result values.new }
 {
     text_span(section, start, Text::Bone(number), values)
 }
@@ -59,7 +59,7 @@ pub extern "C" fn limdroven_morph_name_span(
     number: usize,
     values: &mut [u64],
 ) -> u32
-    ensures { Says span (text_of edition1 (Text.Morph number) section.now start) values.old result values.new }
+    ensures { WritesAnswer span (text_of edition1 (Text.Morph number) section.now start) values.old result values.new }
 {
     text_span(section, start, Text::Morph(number), values)
 }

@@ -1,11 +1,11 @@
 // The states of bones, morphs, constraints and outside parents.
 ghost use Rattle.section.specs.Limits.{edition1};
-ghost use Rattle.numbers.specs.Answers.{Says};
-ghost use Rattle.lists.specs.States.{bone_state, morph_state, constraint_state, outside_parent_state};
-ghost use Rattle.numbers.specs.States.{float, flag, bone_state as bone_state_numbers, outside_parent};
+ghost use Rattle.answer_numbers.specs.Answers.{WritesAnswer};
+ghost use Rattle.entries.specs.States.{bone_state, morph_state, constraint_state, outside_parent_state};
+ghost use Rattle.answer_numbers.specs.States.{flag, bone_state as bone_state_numbers, morph_state as morph_state_numbers, outside_parent};
 
-use lists::states;
-use numbers::answers;
+use answer_numbers::answers;
+use entries::states;
 
 #[unsafe(no_mangle)]
 pub extern "C" fn limdroven_bone_state(
@@ -14,7 +14,7 @@ pub extern "C" fn limdroven_bone_state(
     number: usize,
     values: &mut [u64],
 ) -> u32
-    ensures { Says bone_state_numbers (bone_state edition1 number section.now start) values.old result values.new }
+    ensures { WritesAnswer bone_state_numbers (bone_state edition1 number section.now start) values.old result values.new }
 {
     answers::say(states::bone_state(section, start, number), values)
 }
@@ -26,7 +26,7 @@ pub extern "C" fn limdroven_morph_state(
     number: usize,
     values: &mut [u64],
 ) -> u32
-    ensures { Says float (morph_state edition1 number section.now start) values.old result values.new }
+    ensures { WritesAnswer morph_state_numbers (morph_state edition1 number section.now start) values.old result values.new }
 {
     answers::say(states::morph_state(section, start, number), values)
 }
@@ -38,7 +38,7 @@ pub extern "C" fn limdroven_constraint_state(
     number: usize,
     values: &mut [u64],
 ) -> u32
-    ensures { Says flag (constraint_state edition1 number section.now start) values.old result values.new }
+    ensures { WritesAnswer flag (constraint_state edition1 number section.now start) values.old result values.new }
 {
     answers::say(states::constraint_state(section, start, number), values)
 }
@@ -50,7 +50,7 @@ pub extern "C" fn limdroven_outside_parent_state(
     number: usize,
     values: &mut [u64],
 ) -> u32
-    ensures { Says outside_parent (outside_parent_state edition1 number section.now start) values.old result values.new }
+    ensures { WritesAnswer outside_parent (outside_parent_state edition1 number section.now start) values.old result values.new }
 {
     answers::say(states::outside_parent_state(section, start, number), values)
 }

@@ -1,31 +1,31 @@
 // Names and the path: the length is returned, the bytes are written.
 ghost use Rattle.section.specs.Limits.{edition1};
-ghost use Rattle.numbers.specs.Answers.{Hands};
-ghost use Rattle.lists.specs.Parts.{part_or};
-ghost use Rattle.lists.specs.Texts.{text_of};
-ghost use Rattle.lists.specs.declared.texts.Text.{Text};
+ghost use Rattle.answer_numbers.specs.Answers.{WritesPart};
+ghost use Rattle.entries.specs.Parts.{part_or};
+ghost use Rattle.entries.specs.Texts.{text_of};
+ghost use Rattle.entries.specs.declared.texts.Text.{Text};
 
-use lists::texts;
-use lists::texts::Text;
-use numbers::put;
+use answer_numbers::put;
+use entries::texts;
+use entries::texts::Text;
 
 #[unsafe(no_mangle)]
 pub extern "C" fn limdroven_name(section: &[u8], start: usize, output: &mut [u8]) -> usize
-    ensures { Hands (part_or (text_of edition1 Text.Name section.now start) section.now) output.old result output.new }
+    ensures { WritesPart (part_or (text_of edition1 Text.Name section.now start) section.now) output.old result output.new }
 {
     put::put_part(output, texts::text_part(section, start, Text::Name))
 }
 
 #[unsafe(no_mangle)]
 pub extern "C" fn limdroven_english_name(section: &[u8], start: usize, output: &mut [u8]) -> usize
-    ensures { Hands (part_or (text_of edition1 Text.EnglishName section.now start) section.now) output.old result output.new }
+    ensures { WritesPart (part_or (text_of edition1 Text.EnglishName section.now start) section.now) output.old result output.new }
 {
     put::put_part(output, texts::text_part(section, start, Text::EnglishName))
 }
 
 #[unsafe(no_mangle)]
 pub extern "C" fn limdroven_path(section: &[u8], start: usize, output: &mut [u8]) -> usize
-    ensures { Hands (part_or (text_of edition1 Text.Path section.now start) section.now) output.old result output.new }
+    ensures { WritesPart (part_or (text_of edition1 Text.Path section.now start) section.now) output.old result output.new }
 {
     put::put_part(output, texts::text_part(section, start, Text::Path))
 }
@@ -37,7 +37,7 @@ pub extern "C" fn limdroven_bone_name(
     number: usize,
     output: &mut [u8],
 ) -> usize
-    ensures { Hands (part_or (text_of edition1 (Text.Bone number) section.now start) section.now) output.old result output.new }
+    ensures { WritesPart (part_or (text_of edition1 (Text.Bone number) section.now start) section.now) output.old result output.new }
 {
     put::put_part(output, texts::text_part(section, start, Text::Bone(number)))
 }
@@ -49,7 +49,7 @@ pub extern "C" fn limdroven_morph_name(
     number: usize,
     output: &mut [u8],
 ) -> usize
-    ensures { Hands (part_or (text_of edition1 (Text.Morph number) section.now start) section.now) output.old result output.new }
+    ensures { WritesPart (part_or (text_of edition1 (Text.Morph number) section.now start) section.now) output.old result output.new }
 {
     put::put_part(
         output,

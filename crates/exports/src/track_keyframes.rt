@@ -1,14 +1,14 @@
 // Camera and light records.
 ghost use Rattle.section.specs.Limits.{edition1};
-ghost use Rattle.numbers.specs.Answers.{Says};
-ghost use Rattle.tracks.specs.Camera.{camera_keyframe};
-ghost use Rattle.tracks.specs.Light.{light_keyframe};
-ghost use Rattle.numbers.specs.Tracks.{camera, light};
+ghost use Rattle.answer_numbers.specs.Answers.{WritesAnswer};
+ghost use Rattle.camera_light.specs.Camera.{camera_keyframe};
+ghost use Rattle.camera_light.specs.Light.{light_keyframe};
+ghost use Rattle.answer_numbers.specs.Tracks.{camera, light};
 
-use lists::keyframe::Keyframe;
-use numbers::answers;
-use tracks::camera::CameraKeyframeSummary;
-use tracks::light::LightKeyframeSummary;
+use answer_numbers::answers;
+use camera_light::camera::CameraKeyframeSummary;
+use camera_light::light::LightKeyframeSummary;
+use entries::keyframe::Keyframe;
 
 #[unsafe(no_mangle)]
 pub extern "C" fn limdroven_camera_keyframe(
@@ -18,7 +18,7 @@ pub extern "C" fn limdroven_camera_keyframe(
     number: usize,
     values: &mut [u64],
 ) -> u32
-    ensures { Says camera (camera_keyframe edition1 include_index number section.now start) values.old result values.new }
+    ensures { WritesAnswer camera (camera_keyframe edition1 include_index number section.now start) values.old result values.new }
 {
     answers::say(
         CameraKeyframeSummary::read(section, start, include_index, number),
@@ -34,7 +34,7 @@ pub extern "C" fn limdroven_light_keyframe(
     number: usize,
     values: &mut [u64],
 ) -> u32
-    ensures { Says light (light_keyframe edition1 include_index number section.now start) values.old result values.new }
+    ensures { WritesAnswer light (light_keyframe edition1 include_index number section.now start) values.old result values.new }
 {
     answers::say(
         LightKeyframeSummary::read(section, start, include_index, number),

@@ -1,4 +1,4 @@
--- Laws of what is asked of a key. Assumes nothing.
+-- What is asked of a pose and of a weight, one law for each return: 12 before 13, and 14 of the weight alone. Assumes nothing.
 use mathlib.Core.Bool.{Bool, true, false}
 use mathlib.Core.Option.{none, some}
 use mathlib.Core.Path.{◌≡◌, refl, sym, ◌∙◌}

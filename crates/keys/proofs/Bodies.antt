@@ -1,4 +1,5 @@
--- The bytes of a record's body are those of the section: byte by byte, and four at a time. Assumes nothing.
+-- The bytes of a record's body are those of the section: byte i of it stands i places behind its offset. So four of them make the number
+-- that the section has there, and weight and pose are as the record reader has them. Assumes nothing.
 use Prim.Native.Nat.{ℕ, zero, suc, ◌+◌, ◌≤◌, ◌<◌}
 use native.Mathlib.Nat.{add_assoc, add-zero}
 use native.Mathlib.Decide.{ℕ_discrete}

@@ -1,4 +1,5 @@
--- Which curves of a key are written, and their bytes. Assumes nothing.
+-- The bytes of four curves are those of the first three and of the fourth: where neither group is plain all are written at once, and where
+-- both are plain none is. Assumes nothing.
 use Prim.Native.Nat.{ℕ}
 use native.Mathlib.Omega.{arith}
 use mathlib.Core.Bool.{true, false}

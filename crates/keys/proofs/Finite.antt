@@ -1,4 +1,5 @@
--- A float is finite where the bits of its exponent are not all 1. Assumes nothing.
+-- A float is finite exactly where the bits of its exponent are not all 1: in the cases by which a float is made of its fields only the
+-- exponent 255 gives an infinity or a NaN. Assumes nothing.
 use Prim.Native.Nat.{ℕ, zero, suc, ◌+◌, ◌%◌, ◌/◌, ◌<◌, ◌≤◌}
 use native.Mathlib.Omega.{arith}
 use mathlib.Core.Bool.{Bool, true, false, cond}

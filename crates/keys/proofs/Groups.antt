@@ -1,6 +1,6 @@
--- The groups of a key's fields, made of what was read: floats one by one, and curves one by one. Assumes nothing.
+-- Whether a key's groups are plain, from what was read: three curves are plain if each is (`plain-parts`), and a curve if its four bytes
+-- before clamping are one given number, because 20 and 107 are below 127 (`plain_word`). Assumes nothing.
 use Prim.Native.Nat.{ℕ, ◌+◌, ◌*◌, ◌≤◌, ◌<◌, min}
-use native.Mathlib.Nat.{add_assoc, add-zero}
 use native.Mathlib.Decide.{ℕ_discrete}
 use native.Mathlib.Omega.{arith}
 use borrow.Author.Tests.{eq-eqb, ne_eqb}
@@ -11,8 +11,8 @@ use lib.Dec.{eqb}
 use lib.Ieee.{eq}
 use lib.ListN.{length, get_or, take, drop}
 use Rattle.layout.specs.Numbers.{float}
-use Rattle.layout.specs.Walk.{bytes_at}
 use Rattle.records.specs.Curves.{curve_at}
+use Rattle.records.proofs.CurvesWhole.{curves_bytes}
 use Rattle.records.specs.declared.pose.Pose.{Pose}
 use Rattle.clip.specs.Fields.{BoneBody}
 use Rattle.clip.specs.Keys.{posed}
@@ -80,12 +80,12 @@ plain-parts (p ∷ ps) (x ∷ xs) qs ys l = ap (λ (b : Bool). eqb x p && b) (pl
 module _ (s : List ℕ) (at : ℕ) where
   -- The first three curves and the fourth are the parts of the 16 bytes.
   pub first-curves : clamped (take 12 (bone_body s at).interpolation) ≡ clamped (curve_at s at) ++ (clamped (curve_at s (at + 4)) ++ clamped (curve_at s (at + 8)))
-  unfolding bone_body bytes_at
-  first-curves = simp (add-zero, add_assoc)
+  unfolding bone_body
+  first-curves = ap (λ (bs : List ℕ). clamped (take 12 bs)) (sym (curves_bytes s at))
 
   pub fourth-curve : clamped (drop 12 (bone_body s at).interpolation) ≡ clamped (curve_at s (at + 12))
-  unfolding bone_body bytes_at
-  fourth-curve = simp add_assoc
+  unfolding bone_body
+  fourth-curve = ap (λ (bs : List ℕ). clamped (drop 12 bs)) (sym (curves_bytes s at))
 
   abbrev body : BoneBody
   body = bone_body s at

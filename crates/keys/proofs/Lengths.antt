@@ -1,4 +1,5 @@
--- How long a key is, and the parts that it is written in. Assumes nothing.
+-- A key has 5 bytes of frame and map and the widths of those groups that are not plain, whatever its frame; its bytes are the parts that
+-- are written: the head, the pose and the curves of a bone, the head and the weight of a morph. Assumes nothing.
 use Prim.Native.Nat.{ℕ, ◌+◌}
 use native.Mathlib.Omega.{arith}
 use mathlib.Core.Bool.{Bool, true, false, cond}

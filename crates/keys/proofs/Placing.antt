@@ -1,4 +1,5 @@
--- Laws of placing bytes in an output. Assumes nothing.
+-- Placing bytes in an output keeps its length, and two parts side by side, placed in either order, are both placed at once (`placed-then`,
+-- `placed-before`): so what is written part by part is written whole. Assumes nothing.
 use Prim.Native.Nat.{ℕ, ◌+◌, ◌≤◌}
 use native.Mathlib.Nat.{add_assoc, add-zero, zero-add}
 use native.Mathlib.Omega.{arith}

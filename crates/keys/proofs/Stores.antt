@@ -1,4 +1,5 @@
--- Bytes put into an output, and those of numbers. Assumes nothing.
+-- A copy into a part of an output is placing the bytes there (`put-wrote`), and the bytes that std gives of a number are its bytes in
+-- little endian. Assumes nothing.
 use Prim.Native.Nat.{ℕ, ◌+◌, ◌-◌, ◌/◌, ◌≤◌}
 use native.Mathlib.Omega.{arith}
 use mathlib.Core.List.{List, [], ◌∷◌, ◌++◌, append_assoc}

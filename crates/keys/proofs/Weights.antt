@@ -1,4 +1,5 @@
--- A morph key by its weight: of the float of a record's bytes it is the record's key. Assumes nothing.
+-- A morph key by its weight: this is the float of the record's bytes and finite, so its bits are these bytes again (`to_bits-of_bits`), and
+-- whether it is plain is told by its value. Assumes nothing.
 use Prim.Native.Nat.{ℕ, ◌+◌, ◌*◌, ◌<◌, ◌%◌, ◌/◌}
 use native.Mathlib.Omega.{arith}
 use mathlib.Core.Bool.{Bool, true, false, and-true}

@@ -13,6 +13,6 @@ asked_read (Err PoseFault.Translation) = some invalid_translation
 asked_read (Err PoseFault.Orientation) = some invalid_orientation
 
 -- A weight that is finite, or that it is not.
-abbrev pub WeightTold : Float → std.Option Float → Type 0
-WeightTold weight (std.Some told) = (told ≡ weight) × (finite weight ≡ true)
-WeightTold weight std.None = finite weight ≡ false
+abbrev pub FiniteWeight : Float → std.Option Float → Type 0
+FiniteWeight weight (std.Some told) = (told ≡ weight) × (finite weight ≡ true)
+FiniteWeight weight std.None = finite weight ≡ false

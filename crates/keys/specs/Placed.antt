@@ -1,10 +1,8 @@
--- Bytes that are written into an output, and what the rest of it is then. Definitions only.
-use Rattle.std.specs.Prelude.{ℕ, ◌+◌, ◌≤◌, cond, List, [], ◌∷◌, ◌++◌, ◌≡◌, length, take, drop, get_or, Float}
-use Rattle.std.specs.Float.{binary32}
+-- Bytes that are written into an output, and what the rest of it is then.
+use Rattle.std.specs.{Prelude.{ℕ, ◌+◌, ◌≤◌, cond, List, [], ◌∷◌, ◌++◌, ◌≡◌, length, take, drop, get_or, Float}, Float.{binary32}}
 use Rattle.std.specs.Float.Ieee.{to_bits}
 use Rattle.clip.specs.Section.{bone_body, morph_body}
-use Rattle.strip.specs.Plain.{bone_groups, bone_fields, morph_groups, morph_fields}
-use Rattle.strip.specs.Keys.{little_endian, key_bytes}
+use Rattle.strip.specs.{Plain.{bone_groups, bone_fields, morph_groups, morph_fields}, Keys.{little_endian, key_bytes}}
 use Rattle.keys.specs.declared.plain.BonePlain.{BonePlain}
 
 unfoldable pub placed : ℕ → List ℕ → List ℕ → List ℕ
@@ -26,7 +24,7 @@ bone_key_bytes s at frame = key_bytes bone_groups bone_fields (record { frame = 
 abbrev pub morph_key_bytes : List ℕ → ℕ → ℕ → List ℕ
 morph_key_bytes s at frame = key_bytes morph_groups morph_fields (record { frame = frame; body = morph_body s at })
 
--- A morph key by its frame and its weight, whose bytes are those of the float's bits.
+-- A morph key by its frame and its weight. Here the float is given, not read (layout, Numbers: `float`): its bytes are those of its bits.
 abbrev pub weight_key_bytes : ℕ → Float → List ℕ
 weight_key_bytes frame weight = key_bytes morph_groups morph_fields (record { frame = frame; body = little_endian 4 (to_bits binary32 weight) })
 

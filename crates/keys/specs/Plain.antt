@@ -1,4 +1,4 @@
--- Document 01, "The strip": which groups of a bone key are plain, by their bits. Definitions only.
+-- Document 01, "The strip" (FORMAT, The strip): which groups of a bone key are plain, by their bits.
 use Rattle.std.specs.Prelude.{ℕ, zero, suc, ◌+◌, Bool, false, cond, List, [], ◌∷◌}
 use Rattle.clip.specs.Fields.{BoneBody}
 use Rattle.strip.specs.Plain.{Group, bone_groups, bone_fields}

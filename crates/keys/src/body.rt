@@ -4,7 +4,7 @@ ghost use Rattle.std.specs.Prelude.{◌≡◌, ◌+◌, ◌≤◌, length};
 ghost use Rattle.layout.specs.Numbers.{float};
 ghost use Rattle.clip.specs.Keys.{finite, float_at, posed};
 ghost use Rattle.clip.specs.Section.{bone_body, morph_body};
-ghost use Rattle.keys.specs.Answers.{WeightTold};
+ghost use Rattle.keys.specs.Answers.{FiniteWeight};
 
 use binary::numbers;
 use records::pose;
@@ -69,7 +69,7 @@ fn finite_bits(bits: u32) -> bool
 impl<'a> MorphBody<'a> {
     // The weight, if it is finite. Its bits tell that before they are a float: no NaN need be looked for then.
     pub fn finite_weight(&self) -> Option<f32>
-        ensures { WeightTold (float_at (morph_body self.now.section.now self.now.at) 0) result }
+        ensures { FiniteWeight (float_at (morph_body self.now.section.now self.now.at) 0) result }
     {
         let bits = numbers::u32_at(self.section, self.at);
         if finite_bits(bits) {

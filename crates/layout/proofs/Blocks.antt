@@ -1,5 +1,5 @@
--- A block of records of fixed items is whole or not by arithmetic alone, and the place of the first item that is not whole can be
--- worked out. Assumes nothing.
+-- A block of records of fixed items is whole or not by arithmetic alone: each record that is whole moves the place by its size, so the
+-- first item that is not whole is found by one division, and in the remainder item by item. Assumes nothing.
 use Prim.Native.Nat.{ℕ, zero, suc, ◌+◌, ◌-◌, ◌*◌, ◌/◌, ◌%◌, ◌≤◌, ◌<◌}
 use mathlib.Core.List.{List, [], ◌∷◌, ◌++◌}
 use mathlib.Core.Path.{◌≡◌, sym, ap, ◌∙◌}

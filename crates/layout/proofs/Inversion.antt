@@ -1,4 +1,5 @@
--- From a walk that went well back to its steps. Assumes nothing.
+-- From a walk that went well back to its steps: a refusal of the first step would have been that of the walk, so it went well, and the rest
+-- of the walk began where it ended (`came`). Assumes nothing.
 use Prim.Native.Nat.{ℕ, ◌+◌, ◌≤◌, ◌<◌}
 use mathlib.Core.Bool.{Bool, true, false, cond}
 use mathlib.Core.List.{List}

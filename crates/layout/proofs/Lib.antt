@@ -1,4 +1,5 @@
 pub mod Steps
+pub mod Slices
 pub mod Inversion
 pub mod Sizes
 pub mod Blocks

@@ -1,4 +1,5 @@
--- The sizes of document 01's record table follow from the items' widths. Assumes nothing.
+-- The sizes of document 01's record table follow from the items' widths, which add up by computation; of a model record, with its runs of
+-- bools and pairs, by the size of a run (`size-run`). Assumes nothing.
 use Prim.Native.Nat.{ℕ, zero, suc, ◌+◌, ◌*◌}
 use mathlib.Core.List.{List, [], ◌∷◌, ◌++◌}
 use mathlib.Core.Path.{◌≡◌, refl}

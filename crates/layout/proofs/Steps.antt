@@ -1,4 +1,5 @@
--- Laws of one step of a walk: an item that is whole, one that is not, and what a walk does after each. Assumes nothing.
+-- One step of a walk: one comparison says whether an item is whole, whatever it is read as. Of a reader that is repeated, a turn that goes
+-- well leaves one repetition fewer, from where it ended, and one that is refused ends the walk. Assumes nothing.
 use Prim.Native.Nat.{ℕ, suc, ◌+◌, ◌-◌, ◌≤◌, ◌<◌}
 use native.Mathlib.Omega.{arith}
 use mathlib.Core.List.{List}

@@ -1,5 +1,5 @@
--- A reader that walks given items: it ends where they end, and where one of them is not whole it is refused as they are. So the fields of a
--- record, read one by one, are the items of its table. Assumes nothing.
+-- A reader walks given items if it ends where they end, and is refused as they are where one is not whole. A reader behind another walks
+-- its items behind the other's (`walks-then`): so a record's fields, read one by one, are the items of its table. Assumes nothing.
 use Prim.Native.Nat.{ℕ, zero, suc, ◌+◌, ◌*◌}
 use mathlib.Core.Bool.{Bool, true, false, cond}
 use mathlib.Core.List.{List, [], ◌∷◌, ◌++◌}

@@ -1,4 +1,4 @@
--- Where the first item stands that is not whole (document 01, "Turned down": 1), among items of fixed widths. Definitions only.
+-- Where the first item stands that is not whole (document 01, "Turned down": 1; FORMAT, Numbers), among items of fixed widths.
 use Rattle.std.specs.Prelude.{ℕ, ◌+◌, ◌-◌, ◌*◌, ◌/◌, cond, List, [], ◌∷◌, leb}
 
 -- Of items that do not all fit in `room` bytes: where the first stands that does not.

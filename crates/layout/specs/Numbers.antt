@@ -1,8 +1,7 @@
--- Document 01: "i32 is signed, f32 is IEEE 754 binary32". What the 32 bits of either stand for. Definitions only.
+-- Document 01 (FORMAT, Numbers): "i32 is signed, f32 is IEEE 754 binary32". What the 32 bits of either stand for.
 use Rattle.std.specs.Prelude.{ℕ, ◌^◌, Bool, leb, ℤ, Float}
 use Rattle.std.specs.Float.Ieee.{of_bits}
-use Rattle.std.specs.Float.{binary32}
-use Rattle.std.specs.Int.{w32}
+use Rattle.std.specs.{Float.{binary32}, Int.{w32}}
 use Rattle.std.proofs.Common.{to_z}
 
 abbrev pub signed : ℕ → ℤ

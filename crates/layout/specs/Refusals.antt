@@ -1,4 +1,4 @@
--- Document 01, "Turned down, and by whose doing": the number of each refusal, with the values that are told. Definitions only.
+-- Document 01, "Turned down, and by whose doing" (FORMAT, Refusals): the number of each refusal, with the values that are told.
 use Rattle.std.specs.Prelude.{ℕ}
 
 -- "a value does not fit in the bytes left, a start past the end included (place: offset of the first number, byte, string body,
@@ -6,76 +6,59 @@ use Rattle.std.specs.Prelude.{ℕ}
 abbrev pub too_short : ℕ
 too_short = 1
 
--- "negative count (its offset)"
 abbrev pub negative_count : ℕ
-negative_count = 2
+negative_count = 2  -- "negative count (its offset)"
 
--- "index negative (index)"
 abbrev pub negative_index : ℕ
-negative_index = 3
+negative_index = 3  -- "index negative (index)"
 
--- "index below its kind's count (index, count)"
 abbrev pub index_below_count : ℕ
-index_below_count = 4
+index_below_count = 4  -- "index below its kind's count (index, count)"
 
--- "index repeated (index)"
 abbrev pub repeated_index : ℕ
-repeated_index = 5
+repeated_index = 5  -- "index repeated (index)"
 
--- "link to an absent index (track, link)"
 abbrev pub missing_link : ℕ
-missing_link = 6
+missing_link = 6  -- "link to an absent index (track, link)"
 
--- "cycle (track, link)"
 abbrev pub cycle : ℕ
-cycle = 7
+cycle = 7  -- "cycle (track, link)"
 
--- "wrong previous link (track, link, found, expected)"
 abbrev pub wrong_previous : ℕ
-wrong_previous = 8
+wrong_previous = 8  -- "wrong previous link (track, link, found, expected)"
 
--- "record in two tracks (index)"
 abbrev pub shared_record : ℕ
-shared_record = 9
+shared_record = 9  -- "record in two tracks (index)"
 
--- "negative frame (track, frame)"
 abbrev pub negative_frame : ℕ
-negative_frame = 10
+negative_frame = 10  -- "negative frame (track, frame)"
 
--- "frame repeated in a track (track, frame)"
 abbrev pub repeated_frame : ℕ
-repeated_frame = 11
+repeated_frame = 11  -- "frame repeated in a track (track, frame)"
 
--- "translation not finite", "orientation not finite or too short", "weight not finite (track, frame)"
 abbrev pub invalid_translation : ℕ
-invalid_translation = 12
+invalid_translation = 12  -- "translation not finite"
 
 abbrev pub invalid_orientation : ℕ
-invalid_orientation = 13
+invalid_orientation = 13  -- "orientation not finite or too short"
 
 abbrev pub invalid_weight : ℕ
-invalid_weight = 14
+invalid_weight = 14  -- "weight not finite (track, frame)", as of 12 and 13
 
--- "unreached records with a nonzero link (how many)"
 abbrev pub disconnected_records : ℕ
-disconnected_records = 15
+disconnected_records = 15  -- "unreached records with a nonzero link (how many)"
 
--- "more than 16,777,215 bytes, tested first"
 abbrev pub too_long : ℕ
-too_long = 16
+too_long = 16  -- "more than 16,777,215 bytes, tested first"
 
--- "a u16 slice below A + B (the need); tested after reading"
 abbrev pub work_too_short : ℕ
-work_too_short = 17
+work_too_short = 17  -- "a u16 slice below A + B (the need); tested after reading"
 
--- "output shorter than the strip (the strip's length); tested last"
 abbrev pub output_too_short : ℕ
-output_too_short = 18
+output_too_short = 18  -- "output shorter than the strip (the strip's length); tested last"
 
--- "no record or name of that number; tested after reading"
 abbrev pub absent : ℕ
-absent = 19
+absent = 19  -- "no record or name of that number; tested after reading"
 
--- "bone or morph count above 65,535, or their additional count above 65,534 (offset of the count); tested after 2"
 abbrev pub count_above_limit : ℕ
-count_above_limit = 20
+count_above_limit = 20  -- "bone or morph count above 65,535, or their additional count above 65,534 (offset of the count); tested after 2"

@@ -1,11 +1,10 @@
--- Reading a section item by item, as document 01 describes it: each item stands whole at its offset, or the reading ends there with
--- refusal 1. Definitions only.
+-- Reading a section item by item, as document 01 describes it (FORMAT, Numbers): each item stands whole at its offset, or the reading ends
+-- there with refusal 1.
 use Rattle.std.specs.Prelude.{ℕ, zero, suc, ◌+◌, ◌*◌, ◌-◌, List, [], ◌∷◌, ◌++◌, Bool, not, cond, ◌≡◌, length, get_or, take, drop, leb, ltb, eqb, ℤ, pos, Float}
-use Rattle.layout.specs.Refusals.{too_short, negative_count, count_above_limit}
-use Rattle.layout.specs.Numbers.{signed, least_negative, negative, float}
+use Rattle.layout.specs.{Refusals.{too_short, negative_count, count_above_limit}, Numbers.{signed, least_negative, negative, float}}
 use Rattle.layout.specs.declared.Part.{Part}
 
--- A refusal: its number in 01, "Turned down, and by whose doing", and the values listed there, in that order.
+-- A refusal: its number in 01, "Turned down, and by whose doing" (FORMAT, Refusals), and the values listed there, in that order.
 pub record Refusal : Type 0 where
   pub number : ℕ
   pub values : List ℤ
@@ -99,12 +98,13 @@ f32 = do
 abbrev pub block : ℕ → Reader (Unit {0})
 block width = item width (λ s at. tt)
 
--- A name or path is "the part of the section that holds it" (module 7): where its bytes stand, and how many they are.
+-- A name or path is "the part of the section that holds it" (module 7; FORMAT, Calls by number): where its bytes stand, and how many they
+-- are.
 abbrev pub part : ℕ → ℕ → Part
-part offset length = record { offset = offset; length = length }
+part offset byte_length = record { offset = offset; byte_length = byte_length }
 
 abbrev pub bytes_of : Part → List ℕ → List ℕ
-bytes_of p s = take p.length (drop p.offset s)
+bytes_of p s = take p.byte_length (drop p.offset s)
 
 abbrev pub body : ℕ → Reader Part
 body width = item width (λ s at. part at width)
@@ -114,7 +114,7 @@ unfoldable pub bytes_at : List ℕ → ℕ → ℕ → List ℕ
 bytes_at s at zero = []
 bytes_at s at (suc n) = bytes_at s at n ++ get_or s (at + n) 0 ∷ []
 
--- A name: length u8, then that many bytes.
+-- A name (FORMAT, A model section): length u8, then that many bytes.
 unfoldable pub string : Reader Part
 string = do
   width ← u8
@@ -135,7 +135,7 @@ times (suc n) m = do
   m
   times n m
 
--- A count is an i32. 2: it is negative (its offset); tested after 2, 20: it is above the limit (its offset).
+-- A count is an i32 (FORMAT, Refusals). 2: it is negative (its offset); tested after 2, 20: it is above the limit (its offset).
 unfoldable pub count : ℕ → Reader ℕ
 count limit s at =
     after (u32 s at)

@@ -6,5 +6,5 @@
 #[derive(Clone, Copy)]
 pub struct Part {
     pub offset: usize,
-    pub length: usize,
+    pub byte_length: usize,
 }

@@ -3,7 +3,7 @@
 #![tactic(auto)]
 
 use binary::refusal::Refusal;
-use lines::list;
+use listing_lines::list;
 use std::io;
 
 fn main(rt: HostRuntime) -> io::Result<()> {

@@ -1,7 +1,7 @@
 // Document 01, "Sections by hand": the cases, listed as the listing program lists them. Each listing stands under the case's name.
 #![tactic(auto)]
 
-use lines::list;
+use listing_lines::list;
 use sections_by_hand::{bones, cases, empty, morphs};
 use std::io;
 

@@ -1,4 +1,4 @@
--- Laws of f 0, .., f (n - 1) as a list (strip, specs/Work.antt). Assumes nothing.
+-- The list f 0, .., f (n - 1) (strip, specs/Work): it has n places, with f i at place i, and no other list has. Assumes nothing.
 use Prim.Native.Nat.{ℕ, zero, suc, ◌<◌}
 use native.Mathlib.Omega.{arith}
 use mathlib.Core.List.{List, [], ◌∷◌}

@@ -1,4 +1,5 @@
--- One chain marked, record by record: what is left to mark is the rest of the chain. Assumes nothing.
+-- One chain marked, record by record: marking what is left of it gives what marking all of it gave at the beginning, and the records passed
+-- and those left are as many as the chain has (`Following`). Assumes nothing.
 use Prim.Native.Nat.{ℕ, ◌+◌, ◌<◌}
 use native.Mathlib.Omega.{arith}
 use mathlib.Core.List.{List, [], ◌∷◌}

@@ -1,4 +1,5 @@
--- The marks of one chain, and of the tracks, one by one: a record of a chain is in no chain before. Assumes nothing.
+-- A record of a chain is in no chain before (clip, Shared): so marking one chain more gives its records the mark that the first chain to
+-- hold them has, and leaves all other marks; a mark of 0 is that of a record that no chain holds. Assumes nothing.
 use Prim.Native.Nat.{ℕ, suc, ◌+◌, ◌<◌}
 use native.Mathlib.Numerals.{add-one}
 use native.Mathlib.Omega.{arith}
@@ -10,7 +11,7 @@ use borrow.Author.Tests.{eqb-true, eqb-false}
 use lib.Dec.{eqb}
 use lib.ListN.{length, get_or, set, length-set, replicate, length-replicate, get_or-replicate}
 use lib.Seq.{get_or-set_same, get_or-set_other}
-use Rattle.clip.specs.First.{given, ◌or◌, first, member}
+use Rattle.clip.specs.First.{given, ◌or◌, first_met, member}
 use Rattle.clip.specs.Fields.{Records, Kind}
 use Rattle.clip.specs.Build.{chain_of, reached_before, reached}
 use Rattle.clip.proofs.First.{or-true, or-false, contrary, none_first, none-given, given-none, given-some, first-none, first_some, any_false, false-any, true-any}
@@ -47,10 +48,10 @@ module _ (mark : ℕ) where
 module _ {B : Type 0} (kind : Kind) (r : Records B) where
   -- The mark of a record once the tracks before one are followed.
   abbrev pub mark_before : ℕ → ℕ → ℕ
-  mark_before track p = plus_one (first track (λ t. given (member p (chain_of kind r t)) t))
+  mark_before track p = plus_one (first_met track (λ t. given (member p (chain_of kind r t)) t))
 
   pub none-marked : replicate r.additional 0 ≡ each r.additional (mark_before 0)
-  unfolding first
+  unfolding first_met
   none-marked = is-each (mark_before 0) r.additional (replicate r.additional 0) (length-replicate r.additional 0) (λ i lt. get_or-replicate r.additional i 0 0 lt)
 
   pub all-marked : each r.additional (mark_before r.tracks) ≡ each r.additional (track_mark kind r)
@@ -59,15 +60,15 @@ module _ {B : Type 0} (kind : Kind) (r : Records B) where
 
   module _ (x : Indexed r) (track : ℕ) (is-track : track < r.tracks) where
     mark-in : (p : ℕ) → member p (chain_of kind r track) ≡ true → mark_before (suc track) p ≡ track + 1
-    unfolding first reached_before
+    unfolding first_met reached_before
     mark-in p is =
         let new = never-shared kind r x track is-track p is in
         let before = none_first track (λ t. given (member p (chain_of kind r t)) t) (λ t lt. none-given (member p (chain_of kind r t)) t (any_false (λ u. member p (chain_of kind r u)) track new t lt)) in
         rw (before, is)
 
     mark-out : (p : ℕ) → member p (chain_of kind r track) ≡ false → mark_before (suc track) p ≡ mark_before track p
-    unfolding first
-    mark-out p is = rw is (go (first track (λ t. given (member p (chain_of kind r t)) t)))
+    unfolding first_met
+    mark-out p is = rw is (go (first_met track (λ t. given (member p (chain_of kind r t)) t)))
       where
         go : (o : Option ℕ) → plus_one (o or none) ≡ plus_one o
         go none = refl
@@ -88,7 +89,7 @@ module _ {B : Type 0} (kind : Kind) (r : Records B) where
   -- A mark of 0 is that of a record that no chain holds.
   pub zero-mark : (p : ℕ) → track_mark kind r p ≡ 0 → reached kind r p ≡ false
   unfolding track_mark reached_before
-  zero-mark p is = false-any (λ t. member p (chain_of kind r t)) r.tracks (λ t lt. given-none (member p (chain_of kind r t)) t (first-none r.tracks (λ u. given (member p (chain_of kind r u)) u) (nothing (first r.tracks (λ u. given (member p (chain_of kind r u)) u)) is) t lt))
+  zero-mark p is = false-any (λ t. member p (chain_of kind r t)) r.tracks (λ t lt. given-none (member p (chain_of kind r t)) t (first-none r.tracks (λ u. given (member p (chain_of kind r u)) u) (nothing (first_met r.tracks (λ u. given (member p (chain_of kind r u)) u)) is) t lt))
     where
       nothing : (o : Option ℕ) → plus_one o ≡ 0 → o ≡ none
       nothing none e = refl
@@ -96,9 +97,9 @@ module _ {B : Type 0} (kind : Kind) (r : Records B) where
 
   pub some-mark : (p : ℕ) → (track_mark kind r p ≡ 0 → ⊥) → reached kind r p ≡ true
   unfolding track_mark reached_before
-  some-mark p on = go (first r.tracks (λ u. given (member p (chain_of kind r u)) u)) refl on
+  some-mark p on = go (first_met r.tracks (λ u. given (member p (chain_of kind r u)) u)) refl on
     where
-      go : (o : Option ℕ) → first r.tracks (λ u. given (member p (chain_of kind r u)) u) ≡ o → (plus_one o ≡ 0 → ⊥) → reached kind r p ≡ true
+      go : (o : Option ℕ) → first_met r.tracks (λ u. given (member p (chain_of kind r u)) u) ≡ o → (plus_one o ≡ 0 → ⊥) → reached kind r p ≡ true
       go none e on = absurd (on refl)
       go (some t) e on =
           let at = first_some r.tracks (λ u. given (member p (chain_of kind r u)) u) t e in

@@ -1,4 +1,5 @@
--- The tracks, one by one: their marks and the links followed. Assumes nothing.
+-- The records of the tracks before this one are marked, and their chains have as many records together as links were followed (`Passing`).
+-- A chain has at most 65,534 records, so that these can be counted. Assumes nothing.
 use Prim.Native.Nat.{ℕ, zero, suc, ◌+◌, ◌*◌, ◌≤◌, ◌<◌}
 use native.Mathlib.Numerals.{add-one}
 use native.Mathlib.Omega.{arith}

@@ -1,4 +1,5 @@
--- The chains followed while frames rise and keys meet nothing: what was seen so far, and what the tracks then meet. Assumes nothing.
+-- The tracks before this one meet nothing and are marked (`Tracking`); its own records so far are linked, their frames rise and their keys
+-- meet nothing (`Seeing`). Frames that rise are not repeated, so once link 0 ends the chain the track meets nothing. Assumes nothing.
 use Prim.Native.Nat.{ℕ, ◌+◌, ◌<◌}
 use native.Mathlib.Omega.{arith}
 use mathlib.Core.Bool.{Bool, true, false}
@@ -12,7 +13,7 @@ use Rattle.layout.specs.Walk.{answered}
 use Rattle.clip.specs.First.{member}
 use Rattle.clip.specs.Chain.{chain}
 use Rattle.clip.specs.Keys.{key_test}
-use Rattle.clip.specs.Build.{positions, chain_of, reached_before, records_refusal, track_refusal}
+use Rattle.clip.specs.Build.{record_key, positions, chain_of, reached_before, records_refusal, track_refusal}
 use Rattle.clip.proofs.First.{true-or, none_first}
 use Rattle.clip.proofs.Chained.{Linked}
 use Rattle.clip.proofs.Walked.{walk_ends}
@@ -26,6 +27,7 @@ use Rattle.chains.specs.Step.{Reaches}
 use Rattle.chains.specs.declared.step.Step.{Step}
 use Rattle.chains.proofs.Stepping.{longer, room}
 use Rattle.track_keys.specs.Keys.{key_meets}
+use Rattle.track_keys.specs.Fine.{KeyFine}
 use Rattle.track_keys.specs.Tracks.{test_at, meets, tracks_meet}
 use Rattle.track_keys.proofs.Meets.{track-more}
 use Rattle.marks.specs.Marks.{marked}
@@ -42,7 +44,7 @@ module _ (s : List ℕ) (b : Block) (track : ℕ) where
   Fine from [] to = from ≡ to
   Fine from (p ∷ ps) to =
       (from < ((links s b).at p).frame)
-      × (key_meets s b.kind track ((links s b).at p).frame ((links s b).at p).body false ≡ none)
+      × KeyFine s b.kind track (record_key ((links s b).at p))
       × Fine ((links s b).at p).frame ps to
 
   fine_more : (ps : List ℕ) (from to p expected : ℕ) → Fine from ps to → Behind s b track p expected to → Fine from (ps ++ p ∷ []) ((links s b).at p).frame

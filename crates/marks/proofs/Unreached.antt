@@ -1,4 +1,5 @@
--- The records that no chain holds, counted one by one. Assumes nothing.
+-- Of the first p records so many are disconnected and so many loose (`Counted`), and one record more is reached, loose or disconnected.
+-- Where as many links are followed as there are records, none is left. Assumes nothing.
 use Prim.Native.Nat.{ℕ, ◌+◌, ◌≤◌, ◌<◌}
 use native.Mathlib.Numerals.{add-one}
 use native.Mathlib.Omega.{arith}

@@ -1,8 +1,7 @@
--- The marks of one chain, and the counts of a build. Definitions only.
+-- The marks of one chain, and the counts of a build.
 use Rattle.std.specs.Prelude.{ℕ, List, [], ◌∷◌, set}
 use Rattle.clip.specs.Build as Build
-use Rattle.blocks.specs.Kind.{kind_of}
-use Rattle.blocks.specs.Block.{links}
+use Rattle.blocks.specs.{Kind.{kind_of}, Block.{links}}
 use Rattle.blocks.specs.declared.block.Block.{Block}
 use Rattle.marks.specs.declared.counts.Counts.{Counts}
 
@@ -11,7 +10,8 @@ abbrev pub marked : ℕ → List ℕ → List ℕ → List ℕ
 marked mark [] marks = marks
 marked mark (p ∷ ps) marks = marked mark ps (set marks p mark)
 
--- "15 unreached records with a nonzero link (how many)"; "reached (links followed) and loose (unreached additional records, both links 0)"
+-- (FORMAT, The build) "15 unreached records with a nonzero link (how many)"; "reached (links followed) and loose (unreached additional
+-- records, both links 0)"
 abbrev pub counts_of : List ℕ → Block → Counts
 counts_of s b =
     record {

@@ -1,19 +1,17 @@
--- Tracks whose chains end, whose frames rise and whose keys meet nothing. Definitions only.
-use Rattle.std.specs.Prelude.{ℕ, ◌<◌, false, List, ◌≡◌, Option, Some, None}
+-- Tracks whose chains end, whose frames rise and whose keys meet nothing.
+use Rattle.std.specs.Prelude.{ℕ, ◌<◌, List, ◌≡◌, Option, Some, None}
 use Rattle.std.proofs.Math.Option.{none}
-use Rattle.clip.specs.Build.{links_followed}
+use Rattle.clip.specs.Build.{record_key, links_followed}
 use Rattle.strip.specs.Work.{each, track_mark}
-use Rattle.blocks.specs.Kind.{kind_of}
-use Rattle.blocks.specs.Block.{links}
-use Rattle.track_keys.specs.Keys.{key_meets}
-use Rattle.track_keys.specs.Tracks.{tracks_meet}
+use Rattle.blocks.specs.{Kind.{kind_of}, Block.{links}}
+use Rattle.track_keys.specs.{Fine.{KeyFine}, Tracks.{tracks_meet}}
 use Rattle.blocks.specs.declared.block.Block.{Block}
 
 -- The record at p behind a key of that frame: the previous link is the one expected, its frame is later, and its key meets nothing.
 pub record Behind (s : List ℕ) (b : Block) (track p expected frame : ℕ) : Type 0 where
   pub previous : ((links s b).at p).previous ≡ expected
   pub later : frame < ((links s b).at p).frame
-  pub fine : key_meets s b.kind track ((links s b).at p).frame ((links s b).at p).body false ≡ none
+  pub fine : KeyFine s b.kind track (record_key ((links s b).at p))
 
 -- Such a record's frame.
 abbrev pub StandsBehind : List ℕ → Block → ℕ → ℕ → ℕ → ℕ → Option ℕ → Type 0

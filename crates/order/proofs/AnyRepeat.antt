@@ -1,4 +1,5 @@
--- What the search and the pass over sorted slots say of the slots as they were. Assumes nothing.
+-- Whether the given number is a slot's, or two slots have equal numbers, told by the slots in order: these are the slots as they were, and
+-- of two with equal numbers one now stands right behind an equal number (Equals). Assumes nothing.
 use Prim.Native.Nat.{ℕ, zero, suc, ◌+◌, ◌-◌, ◌≤◌, ◌<◌}
 use native.Mathlib.Omega.{arith}
 use mathlib.Core.Bool.{Bool, true, false}

@@ -1,4 +1,5 @@
--- Equal numbers among sorted slots stand side by side, the larger position behind. Assumes nothing.
+-- Equal numbers among sorted slots stand side by side, the larger position behind, because among equal numbers the key goes by the
+-- position; and each slot of one order has a place in the other. Assumes nothing.
 use Prim.Native.Nat.{ℕ, ◌-◌, ◌≤◌, ◌<◌}
 use native.Mathlib.Omega.{arith}
 use mathlib.Core.List.{List}

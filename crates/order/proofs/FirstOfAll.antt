@@ -1,4 +1,5 @@
--- What the pass over sorted slots says where the slots were filled with 0, 1, .. before. Assumes nothing.
+-- The slots were filled with 0, 1, .. before they were sorted: the least slot right behind an equal number is the first record whose number
+-- an earlier one has, since the slot before it is the smaller one. Assumes nothing.
 use Prim.Native.Nat.{ℕ, ◌-◌, ◌≤◌, ◌<◌}
 use native.Mathlib.Omega.{arith}
 use mathlib.Core.List.{List}
@@ -25,7 +26,7 @@ module _ (s : List ℕ) (f : Field) (within : Within s f) (n : ℕ) (few : n ≤
     -- The pass was given the slots' length.
     pub first-repeat : (m : ℕ) → LeastBehind s f after (length after) m → FirstRepeat (number_of s f) n m
     first-repeat m pass =
-        let long : length after ≡ n = sorted.length ∙ ap length is ∙ up_to-length n in
+        let long : length after ≡ n = sorted.as_many ∙ ap length is ∙ up_to-length n in
         record {
           most = omega (arith, pass.most, long);
           apart = λ i j lt inside same.

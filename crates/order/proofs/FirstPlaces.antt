@@ -1,4 +1,5 @@
--- The first two places of a number. Assumes nothing.
+-- Where numbers do not fall, all places between two of a number have that number too: so, going down from any two places of it, its first
+-- two stand side by side. Assumes nothing.
 use Prim.Native.Nat.{ℕ, zero, suc, ◌+◌, ◌≤◌, ◌<◌}
 use native.Mathlib.Decide.{ℕ_discrete}
 use native.Mathlib.Omega.{arith}

@@ -1,4 +1,5 @@
--- The search for the first place of a number. Assumes nothing.
+-- The search for the first place of a number: numbers do not fall along the slots, so those below the given one come first, and the
+-- partition point that std finds is that place. Assumes nothing.
 use Prim.Native.Nat.{ℕ, ◌≤◌, ◌<◌}
 use native.Mathlib.Omega.{arith}
 use mathlib.Core.Path.{◌≡◌, sym, subst, ap, ◌∙◌}

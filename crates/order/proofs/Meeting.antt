@@ -1,5 +1,5 @@
--- The numbers of sorted slots, met in the order in which the slots stood before: a number is marked if it was met, and stands more than
--- once. Assumes nothing.
+-- Of a number that stands more than once among sorted slots the first two slots differ, as no position stands twice, until it is met: then
+-- they are made equal. So a number is marked exactly if it was met (`MetFirst`). Assumes nothing.
 use Prim.Native.Nat.{ℕ, zero, suc, ◌+◌, ◌≤◌, ◌<◌}
 use native.Mathlib.Decide.{ℕ_discrete}
 use native.Mathlib.Omega.{arith}
@@ -31,16 +31,16 @@ earlier h x (suc i) = go (earlier h x i) (ℕ_discrete (h i) x)
 
 -- The numbers of the first i slots, as they stood before, are met.
 pub record MetFirst (s : List ℕ) (f : Field) (before after xs : List ℕ) (i : ℕ) : Type 0 where
-  pub length : list.length xs ≡ list.length after
+  pub as_many : length xs ≡ length after
   pub below : AllBelow f.count xs
   pub numbers : (j : ℕ) → number_at s f xs j ≡ number_at s f after j
   pub fresh : (j : ℕ) → ((k : ℕ) → k < i → number_at s f before k ≡ number_at s f after j → ⊥) → get_or xs j 0 ≡ get_or after j 0
-  pub marked : (k j : ℕ) → k < i → Twice (number_at s f after) (list.length after) (number_at s f before k) j → get_or xs j 0 ≡ get_or xs (j + 1) 0
+  pub marked : (k j : ℕ) → k < i → Twice (number_at s f after) (length after) (number_at s f before k) j → get_or xs j 0 ≡ get_or xs (j + 1) 0
 
 module _ (s : List ℕ) (f : Field) (within : Within s f) (before after : List ℕ) (sorted : Sorted s f before after) (below : AllBelow f.count before) (once : (x : ℕ) → times x before ≤ 1) where
   pub met-none : MetFirst s f before after after 0
   met-none = record {
-    length = refl;
+    as_many = refl;
     below = sorted-below s f before after sorted f.count below;
     numbers = λ j. refl;
     fresh = λ j none. refl;
@@ -52,18 +52,18 @@ module _ (s : List ℕ) (f : Field) (within : Within s f) (before after : List �
     rise = sorted-numbers s f before after sorted within below
 
     pub met-rise : NumbersRise s f xs
-    met-rise a b lt inside = let up = rise a b lt (omega (arith, m.length, inside)) in omega (arith, up, m.numbers a, m.numbers b)
+    met-rise a b lt inside = let up = rise a b lt (omega (arith, m.as_many, inside)) in omega (arith, up, m.numbers a, m.numbers b)
 
     as-sorted : (number j : ℕ) → Twice (number_at s f xs) (length xs) number j → Twice (number_at s f after) (length after) number j
-    as-sorted number = two-same (number_at s f xs) (length xs) number (number_at s f after) (length after) m.numbers m.length
+    as-sorted number = two-same (number_at s f xs) (length xs) number (number_at s f after) (length after) m.numbers m.as_many
 
     as-now : (number j : ℕ) → Twice (number_at s f after) (length after) number j → Twice (number_at s f xs) (length xs) number j
-    as-now number = two-same (number_at s f after) (length after) number (number_at s f xs) (length xs) (λ k. sym (m.numbers k)) (sym m.length)
+    as-now number = two-same (number_at s f after) (length after) number (number_at s f xs) (length xs) (λ k. sym (m.numbers k)) (sym m.as_many)
 
     module _ (number : ℕ) (is : number ≡ number_at s f before i) (ys : List ℕ) (r : Bool) (meets : Meets s f number xs ys r) where
       pub met-more : MetFirst s f before after ys (i + 1)
       met-more = record {
-        length = meets.length ∙ m.length;
+        as_many = meets.as_many ∙ m.as_many;
         below = meets.below;
         numbers = λ j. meets.numbers j ∙ m.numbers j;
         fresh = λ j none.

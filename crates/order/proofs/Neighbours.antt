@@ -1,4 +1,5 @@
--- The pass over slots that stand right behind one with an equal number. Assumes nothing.
+-- The pass over sorted slots: `Passed` says that the answer so far is the least slot, of the places passed, that stands right behind one
+-- with an equal number. Where numbers rise, a slot with the number of any before it has that of the one right before it. Assumes nothing.
 use Prim.Native.Nat.{ℕ, ◌+◌, ◌-◌, ◌≤◌, ◌<◌, min}
 use native.Mathlib.Decide.{dec_lt}
 use native.Mathlib.Omega.{arith}

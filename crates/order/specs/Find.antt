@@ -1,4 +1,4 @@
--- What `find` answers. Definitions only.
+-- What `find` answers.
 use Rattle.std.specs.Prelude.{ℕ, ◌<◌, ◌≤◌, List, ◌≡◌, length, get_or, Option, Some, None}
 use Rattle.order.specs.Field.{number_of}
 use Rattle.order.specs.declared.field.Field.{Field}

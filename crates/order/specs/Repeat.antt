@@ -1,4 +1,4 @@
--- Numbers that stand twice. Definitions only.
+-- Numbers that stand twice.
 use Rattle.std.specs.Prelude.{ℕ, zero, suc, ◌-◌, ◌<◌, ◌≤◌, Bool, true, false, List, [], ◌∷◌, ◌≡◌, length, get_or}
 use Rattle.order.specs.Field.{number_of}
 use Rattle.order.specs.declared.field.Field.{Field}

@@ -1,4 +1,5 @@
--- What holds of a record that was read. Assumes nothing.
+-- A record that was read, taken back step by step (layout, Inversion): the payload begins where the base ends, and a bone's with its
+-- interpolation, which was read and so is whole. Assumes nothing.
 use Prim.Native.Nat.{ℕ, ◌+◌, ◌≤◌}
 use mathlib.Core.Bool.{Bool}
 use mathlib.Core.List.{List}

@@ -1,3 +1,4 @@
 pub mod Facts
 pub mod PoseWhole
+pub mod CurvesWhole
 pub mod Table

@@ -1,4 +1,5 @@
--- A pose that stands whole is read, and one that was read stands whole. Assumes nothing.
+-- A pose is seven items of 4 bytes: where 28 bytes stand each of them is read, and a pose that was read has walked seven such items
+-- (Table), so 28 bytes stand. Assumes nothing.
 use Prim.Native.Nat.{ℕ, ◌+◌, ◌≤◌}
 use native.Mathlib.Nat.{add_assoc}
 use native.Mathlib.Omega.{arith}

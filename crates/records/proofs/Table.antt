@@ -1,5 +1,5 @@
--- Each record and state, read field by field, walks the items of document 01's record table: where those are whole it is read, and
--- it ends where they end. Assumes nothing.
+-- Each record and state, read field by field, walks the items of document 01's record table, each field its own items, one behind the other
+-- (layout, Walks): where those are whole it is read, and it ends where they end. Assumes nothing.
 use Prim.Native.Nat.{ℕ, zero, suc, ◌*◌}
 use Rattle.std.proofs.lemmas.List.{append-nil}
 use mathlib.Core.Bool.{Bool, true, false}

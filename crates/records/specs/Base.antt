@@ -1,11 +1,8 @@
--- Document 01, "Records": "A base is frame, previous link, next link (i32 each); an additional record has its index (i32) before
--- them, an initial record has none." Definitions only.
-use Rattle.std.specs.Prelude.{ℕ, ◌-◌, Bool, true, false, Option, Some, None}
-use Rattle.std.specs.Option.{option_map}
-use Rattle.layout.specs.Numbers.{signed}
-use Rattle.layout.specs.Walk.{Reader, ◌>>=◌, give, here, u32}
-use Rattle.records.specs.declared.base.BaseBits.{BaseBits}
-use Rattle.records.specs.declared.base.PmmDocumentBaseKeyframeSummary.{PmmDocumentBaseKeyframeSummary}
+-- Document 01, "Records" (FORMAT, Records): "A base is frame, previous link, next link (i32 each); an additional record has its index (i32)
+-- before them, an initial record has none."
+use Rattle.std.specs.{Prelude.{ℕ, ◌-◌, Bool, true, false, Option, Some, None}, Option.{option_map}}
+use Rattle.layout.specs.{Numbers.{signed}, Walk.{Reader, ◌>>=◌, give, here, u32}}
+use Rattle.records.specs.declared.base.{BaseBits.{BaseBits}, PmmDocumentBaseKeyframeSummary.{PmmDocumentBaseKeyframeSummary}}
 use Rattle.records.specs.declared.base.Span.{Span}
 
 abbrev pub index_bits : Bool → Reader (Option ℕ)

@@ -1,4 +1,4 @@
--- Document 01: "A bone's interpolation is four curves of four bytes each: x, y, z, rotation". Definitions only.
+-- Document 01 (FORMAT, Records): "A bone's interpolation is four curves of four bytes each: x, y, z, rotation".
 use Rattle.std.specs.Prelude.{ℕ, ◌+◌, List, [], ◌∷◌, get_or}
 
 abbrev pub curve_at : List ℕ → ℕ → List ℕ

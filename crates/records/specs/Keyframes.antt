@@ -1,16 +1,11 @@
--- Document 01, "Records": the fields of a bone, morph or model record, in file order, and their summaries. Definitions only.
+-- Document 01, "Records" (FORMAT, Records): the fields of a bone, morph or model record, in file order, and their summaries.
 use Rattle.std.specs.Prelude.{ℕ, ◌-◌, Bool}
-use Rattle.layout.specs.Numbers.{float}
-use Rattle.layout.specs.Walk.{Reader, ◌>>=◌, ◌>>◌, give, here, bool, u32, block, times, items}
+use Rattle.layout.specs.{Numbers.{float}, Walk.{Reader, ◌>>=◌, ◌>>◌, give, here, bool, u32, block, times, items}}
 use Rattle.layout.specs.Records.{constraint_state, pair}
-use Rattle.records.specs.Base.{base_bits, base_of, span_of}
-use Rattle.records.specs.Pose.{pose_bits, pose_of}
-use Rattle.records.specs.declared.bone.BoneBits.{BoneBits}
-use Rattle.records.specs.declared.bone.PmmDocumentBoneKeyframeSummary.{PmmDocumentBoneKeyframeSummary}
-use Rattle.records.specs.declared.morph.MorphBits.{MorphBits}
-use Rattle.records.specs.declared.morph.PmmDocumentMorphKeyframeSummary.{PmmDocumentMorphKeyframeSummary}
-use Rattle.records.specs.declared.model.ModelBits.{ModelBits}
-use Rattle.records.specs.declared.model.PmmDocumentModelKeyframeSummary.{PmmDocumentModelKeyframeSummary}
+use Rattle.records.specs.{Base.{base_bits, base_of, span_of}, Pose.{pose_bits, pose_of}}
+use Rattle.records.specs.declared.bone.{BoneBits.{BoneBits}, PmmDocumentBoneKeyframeSummary.{PmmDocumentBoneKeyframeSummary}}
+use Rattle.records.specs.declared.{morph.MorphBits.{MorphBits}, morph.PmmDocumentMorphKeyframeSummary.{PmmDocumentMorphKeyframeSummary}}
+use Rattle.records.specs.declared.{model.ModelBits.{ModelBits}, model.PmmDocumentModelKeyframeSummary.{PmmDocumentModelKeyframeSummary}}
 
 -- "interpolation 16 bytes, translation 3 f32, orientation 4 f32, physics disabled bool, selected bool"
 unfoldable pub bone_bits : Bool → Reader BoneBits
@@ -28,6 +23,7 @@ bone_of b offset end =
     record {
       base = base_of b.base;
       pose = pose_of b.pose;
+      pose_bits = b.pose;
       physics_disabled = b.physics_disabled;
       selected = b.selected;
       span = span_of offset b.base.payload_offset end;
@@ -46,6 +42,7 @@ morph_of b offset end =
     record {
       base = base_of b.base;
       weight = float b.weight;
+      weight_bits = b.weight;
       selected = b.selected;
       span = span_of offset b.base.payload_offset end;
     }

@@ -1,10 +1,8 @@
--- Document 01: "A pose is three translation floats and four orientation floats." Definitions only.
+-- Document 01 (FORMAT, Records): "A pose is three translation floats and four orientation floats."
 use Rattle.std.specs.Prelude.{slice_index}
-use Rattle.layout.specs.Numbers.{float}
-use Rattle.layout.specs.Walk.{Reader, ◌>>=◌, give}
+use Rattle.layout.specs.{Numbers.{float}, Walk.{Reader, ◌>>=◌, give}}
 use Rattle.binary.specs.Groups.{u32s}
-use Rattle.records.specs.declared.pose.PoseBits.{PoseBits}
-use Rattle.records.specs.declared.pose.Pose.{Pose}
+use Rattle.records.specs.declared.pose.{PoseBits.{PoseBits}, Pose.{Pose}}
 
 unfoldable pub pose_bits : Reader PoseBits
 pose_bits = do

@@ -17,11 +17,12 @@ pub struct BoneBits {
     pub selected: bool,
 }
 
-// The interpolation is answered beside the summary, as an array.
+// The interpolation is answered beside the summary, as an array. Rattle's f32 has one NaN; the bits are the file's.
 #[derive(Clone, Copy)]
 pub struct PmmDocumentBoneKeyframeSummary {
     pub base: PmmDocumentBaseKeyframeSummary,
     pub pose: Pose,
+    pub pose_bits: PoseBits,
     pub physics_disabled: bool,
     pub selected: bool,
     pub span: Span,
@@ -54,6 +55,7 @@ impl BoneBits {
         PmmDocumentBoneKeyframeSummary {
             base: self.base.summary(),
             pose: Pose::from(self.pose),
+            pose_bits: self.pose,
             physics_disabled: self.physics_disabled,
             selected: self.selected,
             span: Span::new(offset, self.base.payload_offset, end),

@@ -16,10 +16,12 @@ pub struct MorphBits {
     pub selected: bool,
 }
 
+// Rattle's f32 has one NaN; the bits are the file's.
 #[derive(Clone, Copy)]
 pub struct PmmDocumentMorphKeyframeSummary {
     pub base: PmmDocumentBaseKeyframeSummary,
     pub weight: f32,
+    pub weight_bits: u32,
     pub selected: bool,
     pub span: Span,
 }
@@ -48,6 +50,7 @@ impl MorphBits {
         PmmDocumentMorphKeyframeSummary {
             base: self.base.summary(),
             weight: num::f32_from_bits_with_nan(self.weight),
+            weight_bits: self.weight,
             selected: self.selected,
             span: Span::new(offset, self.base.payload_offset, end),
         }

@@ -1,12 +1,13 @@
 // The state of a bone, a morph, a constraint or an outside parent.
 ghost use Rattle.std.specs.Prelude.{◌≡◌};
 ghost use Rattle.binary.specs.Answers.{read};
-ghost use Rattle.records.specs.States.{bone_state, bone_state_of, parent_state_of};
+ghost use Rattle.records.specs.States.{bone_state, bone_state_of, morph_state_of, parent_state_of};
 
 use crate::pose;
 use crate::pose::{Pose, PoseBits};
 use binary::numbers;
 use binary::refusal::Read;
+use std::num;
 
 #[derive(Clone, Copy)]
 pub struct BoneStateBits {
@@ -16,12 +17,21 @@ pub struct BoneStateBits {
     pub selected: bool,
 }
 
+// Rattle's f32 has one NaN; the bits are the file's.
 #[derive(Clone, Copy)]
 pub struct PmmDocumentBoneStateSummary {
     pub pose: Pose,
+    pub pose_bits: PoseBits,
     pub dirty: bool,
     pub physics_disabled: bool,
     pub selected: bool,
+}
+
+// As in a bone's state.
+#[derive(Clone, Copy)]
+pub struct PmmDocumentMorphStateSummary {
+    pub weight: f32,
+    pub weight_bits: u32,
 }
 
 #[derive(Clone, Copy)]
@@ -56,9 +66,22 @@ impl From<BoneStateBits> for PmmDocumentBoneStateSummary {
     fn from(bits: BoneStateBits) -> PmmDocumentBoneStateSummary {
         PmmDocumentBoneStateSummary {
             pose: Pose::from(bits.pose),
+            pose_bits: bits.pose,
             dirty: bits.dirty,
             physics_disabled: bits.physics_disabled,
             selected: bits.selected,
+        }
+    }
+}
+
+impl From<u32> for PmmDocumentMorphStateSummary {
+    ghost from_gives = { λ bits state. state ≡ morph_state_of bits };
+
+    #[tactic(auto, unfolding(crate::specs::States::morph_state_of))]
+    fn from(bits: u32) -> PmmDocumentMorphStateSummary {
+        PmmDocumentMorphStateSummary {
+            weight: num::f32_from_bits_with_nan(bits),
+            weight_bits: bits,
         }
     }
 }

@@ -1,18 +1,18 @@
 // The calls by the numbers that a file has for them, their places in oracle/calls/src/call.rs. Here alone a number becomes a call; an enum
 // between them would name each of the 31 twice more. What the calls for C hand on is made here: an answer as numbers, or a part.
 use crate::check::Check;
-use lists::keyframe::Keyframe;
-use lists::texts::Text;
-use lists::{interpolation, keyframe, model_lists, states, texts};
-use numbers::answers::Numbers;
+use answer_numbers::answers::Numbers;
+use camera_light::camera::CameraKeyframeSummary;
+use camera_light::light::LightKeyframeSummary;
+use camera_light::track::Kind;
+use camera_light::{camera, track};
+use entries::keyframe::Keyframe;
+use entries::texts::Text;
+use entries::{interpolation, keyframe, model_lists, states, texts};
 use records::bone::PmmDocumentBoneKeyframeSummary;
 use records::model::PmmDocumentModelKeyframeSummary;
 use records::morph::PmmDocumentMorphKeyframeSummary;
 use section::summary;
-use tracks::camera::CameraKeyframeSummary;
-use tracks::light::LightKeyframeSummary;
-use tracks::track::Kind;
-use tracks::{camera, track};
 use vectors::fields::Fields;
 use vectors::file::Section;
 use vectors::tally::Outcome;

@@ -1,7 +1,7 @@
 // One check: what a call is lent, and what it must answer. oracle/README.md has the format.
+use answer_numbers::answers::Numbers;
+use answer_numbers::{answers, put};
 use binary::refusal::Refusal;
-use numbers::answers::Numbers;
-use numbers::{answers, put};
 use vectors::fields::Fields;
 use vectors::lent::{Lent, Place, Size};
 use vectors::tally::{Outcome, Row};

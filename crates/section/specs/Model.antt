@@ -1,21 +1,13 @@
--- Document 01, "Model section": what stands in it, in order. Definitions only. An i32 or f32 is kept as its 32 bits.
+-- Document 01, "Model section" (FORMAT, A model section): what stands in it, in order. An i32 or f32 is kept as its 32 bits.
 use Rattle.std.specs.Prelude.{ℕ, ◌*◌, cond, List, [], ltb, length}
 use Rattle.layout.specs.Refusals.{too_long}
 use Rattle.layout.specs.Walk.{Reader, ◌>>=◌, ◌>>◌, give, here, u8, bool, u32, block, string, times, items, count, unlimited, refused, refusal}
 use Rattle.layout.specs.Records.{initial, additional, bone, morph, model, bone_state, morph_state, constraint_state, parent_state}
 use Rattle.binary.specs.Groups.{u32s}
-use Rattle.section.specs.declared.limits.Limits.{Limits}
-use Rattle.section.specs.declared.opening.Opening.{Opening}
-use Rattle.section.specs.declared.names.Names.{Names}
-use Rattle.section.specs.declared.names.Counts.{Counts}
-use Rattle.section.specs.declared.display.View.{View}
-use Rattle.section.specs.declared.display.Scroll.{Scroll}
-use Rattle.section.specs.declared.keyframes.Keyframes.{Keyframes}
-use Rattle.section.specs.declared.keyframes.KeyframeBlocks.{KeyframeBlocks}
-use Rattle.section.specs.declared.closing.States.{States}
-use Rattle.section.specs.declared.closing.Ending.{Ending}
-use Rattle.section.specs.declared.model.Front.{Front}
-use Rattle.section.specs.declared.model.Model.{Model}
+use Rattle.section.specs.declared.{limits.Limits.{Limits}, opening.Opening.{Opening}, names.{Names.{Names}, Counts.{Counts}}}
+use Rattle.section.specs.declared.display.{View.{View}, Scroll.{Scroll}}
+use Rattle.section.specs.declared.keyframes.{Keyframes.{Keyframes}, KeyframeBlocks.{KeyframeBlocks}}
+use Rattle.section.specs.declared.{closing.{States.{States}, Ending.{Ending}}, model.{Front.{Front}, Model.{Model}}}
 
 abbrev pub path_width : ℕ
 path_width = 256
@@ -42,8 +34,8 @@ names limit = do
   give (record { count = n; offset = at })
 
 -- "constraint count C i32 and 4C skipped bytes", and so for outside parents
-unfoldable pub entries : Reader ℕ
-entries = do
+unfoldable pub counted_block : Reader ℕ
+counted_block = do
   n ← count unlimited
   block (4 * n)
   give n
@@ -52,8 +44,8 @@ unfoldable pub counts : Limits → Reader Counts
 counts limits = do
   bones ← names limits.tracks
   morphs ← names limits.tracks
-  constraints ← entries
-  parents ← entries
+  constraints ← counted_block
+  parents ← counted_block
   give (record { bones = bones; morphs = morphs; constraints = constraints; parents = parents })
 
 -- "draw order u8; visible bool; selected bone i32; four selected morphs i32"
@@ -134,6 +126,6 @@ model_parts limits = do
   e ← ending
   give (record { front = f; keyframes = k; states = s; ending = e })
 
--- The section. 16: more bytes are lent than the limit; tested first.
+-- The section (FORMAT, Refusals). 16: more bytes are lent than the limit; tested first.
 unfoldable pub model_section : Limits → Reader Model
-model_section limits s start = cond (ltb limits.length (length s)) (refused (refusal too_long [])) (model_parts limits s start)
+model_section limits s start = cond (ltb limits.bytes (length s)) (refused (refusal too_long [])) (model_parts limits s start)

@@ -1,12 +1,9 @@
--- Document 01, module 2: the Rust's summary of a model section, or the refusal. Definitions only.
+-- Document 01, module 2 (FORMAT, Calls by number): the Rust's summary of a model section, or the refusal.
 use Rattle.std.specs.Prelude.{ℕ, List, map}
-use Rattle.layout.specs.Numbers.{signed, float}
-use Rattle.layout.specs.Walk.{fine, after, Answer, answer}
-use Rattle.section.specs.declared.limits.Limits.{Limits}
-use Rattle.section.specs.Model.{model_section}
-use Rattle.section.specs.declared.model.Model.{Model}
-use Rattle.section.specs.declared.summary.PmmDocumentModelSections.{PmmDocumentModelSections}
+use Rattle.layout.specs.{Numbers.{signed, float}, Walk.{fine, after, Answer, answer}}
+use Rattle.section.specs.declared.{limits.Limits.{Limits}, model.Model.{Model}, summary.PmmDocumentModelSections.{PmmDocumentModelSections}}
 use Rattle.section.specs.declared.summary.PmmDocumentModelSummary.{PmmDocumentModelSummary}
+use Rattle.section.specs.Model.{model_section}
 
 unfoldable pub sections_of : Model → PmmDocumentModelSections
 sections_of m =
@@ -57,6 +54,7 @@ summary_of start m end =
       visible = m.front.view.visible;
       blend_enabled = m.ending.blend_enabled;
       edge_width = float m.ending.edge_width;
+      edge_width_bits = m.ending.edge_width;
       self_shadow_enabled = m.ending.self_shadow_enabled;
     }
 

@@ -1,8 +1,8 @@
-// The limits of this house (document 01, "Turned down").
+// The limits of the first edition (document 01, "Turned down": "By our limits").
 #[derive(Clone, Copy)]
 pub struct Limits {
     // 16: the most bytes that may be lent.
-    pub length: usize,
+    pub bytes: usize,
     // 20: the highest bone or morph count.
     pub tracks: u32,
     // 20: the highest count of additional bone or morph records.
@@ -10,7 +10,7 @@ pub struct Limits {
 }
 
 pub const EDITION_1: Limits = Limits {
-    length: 16_777_215,
+    bytes: 16_777_215,
     tracks: 65_535,
     additional: 65_534,
 };

@@ -68,7 +68,7 @@ fn read_parts(s: &[u8], at: usize) -> Read<Model>
 pub fn read_model(s: &[u8], start: usize) -> Read<Model>
     ensures { read result ≡ model_section edition1 s.now start }
 {
-    if EDITION_1.length < s.len() {
+    if EDITION_1.bytes < s.len() {
         return Err(Refusal::TooLong);
     }
     read_parts(s, start)

@@ -1,7 +1,7 @@
 // Bone and morph names, and the lists that are skipped: a count, and as many entries.
 ghost use Rattle.std.specs.Prelude.{◌≡◌};
 ghost use Rattle.binary.specs.Answers.{read};
-ghost use Rattle.section.specs.Model.{names, entries, counts};
+ghost use Rattle.section.specs.Model.{names, counted_block, counts};
 ghost use Rattle.section.specs.Limits.{edition1};
 
 use crate::limits::EDITION_1;
@@ -33,9 +33,9 @@ pub fn read_names(s: &[u8], at: usize, limit: u32) -> Read<Names>
     Ok((Names { count, offset }, next))
 }
 
-#[tactic(auto, unfolding(crate::specs::Model::entries))]
-pub fn read_entries(s: &[u8], at: usize) -> Read<u32>
-    ensures { read result ≡ entries s.now at }
+#[tactic(auto, unfolding(crate::specs::Model::counted_block))]
+pub fn read_counted_block(s: &[u8], at: usize) -> Read<u32>
+    ensures { read result ≡ counted_block s.now at }
 {
     let (count, body) = counts::read_count(s, at, UNLIMITED)?;
     let next = numbers::skip(s, body, 4 * (count as usize))?;
@@ -48,8 +48,8 @@ pub fn read_counts(s: &[u8], at: usize) -> Read<Counts>
 {
     let (bones, at) = read_names(s, at, EDITION_1.tracks)?;
     let (morphs, at) = read_names(s, at, EDITION_1.tracks)?;
-    let (constraints, at) = read_entries(s, at)?;
-    let (parents, next) = read_entries(s, at)?;
+    let (constraints, at) = read_counted_block(s, at)?;
+    let (parents, next) = read_counted_block(s, at)?;
     let counts = Counts {
         bones,
         morphs,

@@ -1,8 +1,9 @@
 // The Rust's summary of a model section. Of its fields, `slot_index` and the asset reference are left out (document 01, module 2);
-// names, paths, records and states are answered by number elsewhere.
+// names, paths, records and states are answered by number elsewhere. Besides the edge's width it has the width's bits: Rattle's f32 has one
+// NaN, the bits are the file's.
 ghost use Rattle.std.specs.Prelude.{◌≡◌, map};
 ghost use Rattle.layout.specs.Numbers.{signed};
-ghost use Rattle.binary.specs.Answers.{said};
+ghost use Rattle.binary.specs.Answers.{answer_read};
 ghost use Rattle.section.specs.Limits.{edition1};
 ghost use Rattle.section.specs.Summary.{sections_of, summary_of, model_summary};
 
@@ -57,6 +58,7 @@ pub struct PmmDocumentModelSummary {
     pub visible: bool,
     pub blend_enabled: bool,
     pub edge_width: f32,
+    pub edge_width_bits: u32,
     pub self_shadow_enabled: bool,
 }
 
@@ -126,6 +128,7 @@ fn summary(offset: usize, m: Model, offset_end: usize) -> PmmDocumentModelSummar
         visible: front.view.visible,
         blend_enabled: m.ending.blend_enabled,
         edge_width: num::f32_from_bits_with_nan(m.ending.edge_width),
+        edge_width_bits: m.ending.edge_width,
         self_shadow_enabled: m.ending.self_shadow_enabled,
     }
 }
@@ -135,7 +138,7 @@ pub fn read_document_model_summary(
     section: &[u8],
     start: usize,
 ) -> Result<PmmDocumentModelSummary, Refusal>
-    ensures { said result ≡ model_summary edition1 section.now start }
+    ensures { answer_read result ≡ model_summary edition1 section.now start }
 {
     let (m, end) = model::read_model(section, start)?;
     Ok(summary(start, m, end))

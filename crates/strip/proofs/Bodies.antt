@@ -1,4 +1,5 @@
--- The work slices and the bytes of tracks, with each body put for another: only the fields of keys turn on it. Assumes nothing.
+-- The work slices and the bytes of tracks, with each body put for another: the order of indices and the marks do not look at bodies (clip,
+-- Bodies), and only the fields of keys turn on them. Assumes nothing.
 use Prim.Native.Nat.{ℕ, zero, suc, ◌<◌}
 use native.Mathlib.Omega.{arith}
 use mathlib.Core.List.{List, [], ◌∷◌, map}

@@ -1,4 +1,5 @@
--- Bytes that are told apart: a list with a known length in front, and a number in little endian. Assumes nothing.
+-- Bytes that are told apart: of two equal lists with fronts of one length the fronts are equal, and so is what follows; a number below 256
+-- to the width is known by its bytes, the lowest first. Assumes nothing.
 use Prim.Native.Nat.{ℕ, zero, suc, ◌/◌, ◌%◌, ◌^◌, ◌<◌}
 use native.Mathlib.Nat.{div-add-mod, pow-suc, div-lt_iff_lt-mul}
 use native.Mathlib.Omega.{arith}

@@ -1,4 +1,5 @@
--- Demand 3 (specs, Demand3). Assumes nothing.
+-- Demand 3 (specs, Demand3) of the definition. Matched sections: each kind by itself (clip, Matched), then both. Accepted ones: a strip
+-- read from its front tells both counts, and then one track after the other (Tracks). Assumes nothing.
 use Prim.Native.Nat.{ℕ, suc, ◌^◌, ◌<◌}
 use native.Mathlib.Omega.{arith}
 use mathlib.Core.List.{List, [], ◌++◌, append_assoc, append-nil}
@@ -12,7 +13,7 @@ use Rattle.clip.specs.Fields.{bone, morph}
 use Rattle.clip.specs.Keys.{pose_asked, posed, weight_asked, float_at, bone_test, morph_test}
 use Rattle.clip.specs.Build.{keys, build_refusal}
 use Rattle.clip.specs.Section.{records_at, bones, morphs, clip_refusal}
-use Rattle.clip.specs.Matched.{Matched, UnpairedIdle}
+use Rattle.clip.specs.Matched.{Matched, UnpairedIsolated}
 use Rattle.clip.proofs.First.{or-none, none_or}
 use Rattle.clip.proofs.Clip.{SoundClip, sound-clip}
 use Rattle.clip.proofs.Matched.{accepted-exactly, same-tracks}
@@ -29,7 +30,7 @@ use Rattle.strip.proofs.Call.{accepted-within, tells, strip-out, accepts}
 use Rattle.strip.proofs.Written.{Wide, track-writable, bones-shaped, morphs-shaped}
 
 module _ (s₁ : List ℕ) (m₁ : Model) (s₂ : List ℕ) (m₂ : Model) (of_bones : Matched (bones s₁ m₁) (bones s₂ m₂)) (of_morphs : Matched (morphs s₁ m₁) (morphs s₂ m₂)) (c₁ : SoundClip s₁ m₁) where
-  exactly : (clip_refusal s₂ m₂ ≡ none) ↔ (UnpairedIdle of_bones × UnpairedIdle of_morphs)
+  exactly : (clip_refusal s₂ m₂ ≡ none) ↔ (UnpairedIsolated of_bones × UnpairedIsolated of_morphs)
   unfolding clip_refusal
   exactly =
       let b = accepted-exactly (bones s₁ m₁) (bones s₂ m₂) of_bones bone bone_test c₁.bones in

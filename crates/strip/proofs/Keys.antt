@@ -1,4 +1,5 @@
--- A key's bytes tell where they end and what the key is like. Assumes nothing.
+-- A key's bytes tell where they end and what the key is like: four bytes of frame and the map come first, and the map tells which fields
+-- follow, each as wide as its group (`fields-are`). Assumes nothing.
 use Prim.Native.Nat.{ℕ, suc, ◌+◌, ◌*◌, ◌<◌}
 use native.Mathlib.Omega.{arith}
 use mathlib.Core.Bool.{Bool, true, false, cond}

@@ -1,4 +1,5 @@
--- A strip is no longer than its section. Assumes nothing.
+-- A strip is no longer than its section: a bone record has at least 58 bytes and its key at most 49, a morph record 17 and its key 9, and a
+-- track's count has at most 4. No record is in two chains, so none is written twice. Assumes nothing.
 use Prim.Native.Nat.{ℕ, zero, suc, ◌+◌, ◌*◌, ◌≤◌}
 use native.Mathlib.Nat.{mul-add, mul-suc, mul-le-mul_left}
 use native.Mathlib.Omega.{arith}

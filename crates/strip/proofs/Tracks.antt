@@ -1,4 +1,5 @@
--- Tracks of equal bytes have as many keys, those in the same place alike, and the other way round. Assumes nothing.
+-- Tracks of equal bytes have as many keys, those in the same place alike, and the other way round: the count in front tells how many keys
+-- follow, and a key's bytes tell where they end (Keys). Assumes nothing.
 use Prim.Native.Nat.{ℕ, zero, suc, ◌+◌, ◌^◌, ◌≤◌, ◌<◌}
 use native.Mathlib.Decide.{ℕ_discrete}
 use native.Mathlib.Omega.{arith}

@@ -1,5 +1,5 @@
--- The tracks of an accepted build can be written: frames are not negative, fields are as wide as their groups, and no track has more keys
--- than a count can tell. Assumes nothing.
+-- The tracks of an accepted build can be written: no frame is negative, since 10 is not met; fields are as wide as their groups; and a
+-- chain has no more records than there are, so that a count can tell its keys. Assumes nothing.
 use Prim.Native.Nat.{ℕ, suc, ◌^◌, ◌<◌}
 use native.Mathlib.Omega.{arith}
 use mathlib.Core.List.{List, [], ◌∷◌, map}

@@ -1,18 +1,16 @@
--- Document 01, "The strip" and "Turned down": the strip call, for every section, start and slices. Definitions only.
+-- Document 01, "The strip" and "Turned down" (FORMAT, The strip call and Refusals): the strip call, for every section, start and slices.
 use Rattle.std.specs.Prelude.{ℕ, ◌+◌, cond, ◌||◌, List, [], ◌∷◌, ◌++◌, ltb, pos, length, drop, replicate}
 use Rattle.std.proofs.Math.Option.{Option, none, some}
 use Rattle.layout.specs.Refusals.{work_too_short, output_too_short}
 use Rattle.layout.specs.Walk.{Refusal, refusal, Walk, fine, refused, Answer, answered, declined}
-use Rattle.section.specs.declared.limits.Limits.{Limits}
+use Rattle.section.specs.declared.{limits.Limits.{Limits}, model.Model.{Model}}
 use Rattle.section.specs.Model.{model_section}
-use Rattle.section.specs.declared.model.Model.{Model}
 use Rattle.clip.specs.Section.{bones, morphs, clip_refusal, reached_records, loose_records}
-use Rattle.strip.specs.Strip.{strip_of}
-use Rattle.strip.specs.Work.{first_work, second_work}
+use Rattle.strip.specs.{Strip.{strip_of}, Work.{first_work, second_work}}
 
 -- "An accepted build reports reached .. and loose ..; [the strip call] adds the strip's length."
 pub record Built : Type 0 where
-  pub length : ℕ
+  pub strip_length : ℕ
   pub reached : ℕ
   pub loose : ℕ
 
@@ -43,7 +41,7 @@ module _ (first second output : List ℕ) where
     written need strip =
         cond (ltb (length output) (length strip)) (zeroed need (refusal output_too_short (pos (length strip) ∷ [])))
         (record {
-          answer = answered (record { length = length strip; reached = reached_records s m; loose = loose_records s m });
+          answer = answered (record { strip_length = length strip; reached = reached_records s m; loose = loose_records s m });
           first = over (first_work s m) first;
           second = over (second_work s m) second;
           output = over strip output;

@@ -1,9 +1,8 @@
--- Demand 3, word for word. Definitions only: what is to be proved, for the limits and the count's width of an edition; the proofs, for
--- editions whose counts fit the width, are in proofs/Demand3.antt.
+-- Demand 3, word for word (FORMAT, Two sections, one strip). Definitions only: what is to be proved, for the limits and the count's width
+-- of an edition; the proofs, for editions whose counts fit the width, are in proofs/Demand3.antt.
 use Rattle.std.specs.Prelude.{ℕ, ◌≡◌, ◌↔◌}
 use Rattle.section.specs.declared.limits.Limits.{Limits}
-use Rattle.clip.specs.Section.{bones, morphs}
-use Rattle.clip.specs.Matched.{Matched, UnpairedIdle}
+use Rattle.clip.specs.{Section.{bones, morphs}, Matched.{Matched, UnpairedIsolated}}
 use Rattle.strip.specs.Runs.{Lent, Within, Accepted, strip_out, LongEnough, SameTracks}
 
 -- "Take any two model sections read within the limits, with equal bone and morph counts and with slices long enough, whatever those
@@ -19,7 +18,7 @@ pub record MatchedSections (limits : Limits) (width : ℕ) : Type 0 where
       → (of_bones : Matched (bones x.section read_x.model) (bones y.section read_y.model))
       → (of_morphs : Matched (morphs x.section read_x.model) (morphs y.section read_y.model))
       → Accepted limits width x
-      → Accepted limits width y ↔ (UnpairedIdle of_bones × UnpairedIdle of_morphs)
+      → Accepted limits width y ↔ (UnpairedIsolated of_bones × UnpairedIsolated of_morphs)
   pub equal :
       (x y : Lent) (read_x : Within limits width x) (read_y : Within limits width y)
       → Matched (bones x.section read_x.model) (bones y.section read_y.model)

@@ -1,4 +1,5 @@
--- Document 01, "The strip": a key's bytes, and when two keys are alike. Definitions only.
+-- Document 01, "The strip" (FORMAT, The strip; of keys that are alike, Two sections, one strip): a key's bytes, and when two keys are
+-- alike.
 use Rattle.std.specs.Prelude.{ℕ, zero, suc, ◌+◌, ◌*◌, ◌/◌, ◌%◌, true, cond, List, [], ◌∷◌, ◌++◌, ◌⊎◌, ◌≡◌}
 use Rattle.clip.specs.Keys.{Key}
 use Rattle.strip.specs.Plain.{Group}

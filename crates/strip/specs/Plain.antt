@@ -1,8 +1,7 @@
--- Document 01, "The strip": the groups of fields that a map byte names, and when each is plain. Definitions only.
+-- Document 01, "The strip" (FORMAT, The strip): the groups of fields that a map byte names, and when each is plain.
 use Rattle.std.specs.Prelude.{ℕ, ◌+◌, min, Bool, true, false, ◌&&◌, List, [], ◌∷◌, map, eqb, take, drop}
 use Rattle.std.specs.Float.Ieee.{eq}
-use Rattle.layout.specs.Numbers.{float}
-use Rattle.layout.specs.Walk.{u32_at}
+use Rattle.layout.specs.{Numbers.{float}, Walk.{u32_at}}
 use Rattle.clip.specs.Fields.{BoneBody}
 
 -- "every component equals, as a float or byte, its plain value": of a float, by the bits of both.

@@ -1,16 +1,11 @@
--- Demand 3: two runs of the strip call, and what is said of them. Definitions only.
+-- Demand 3 (FORMAT, Two sections, one strip): two runs of the strip call, and what is said of them.
 use Rattle.std.specs.Prelude.{ℕ, ◌+◌, ◌≤◌, ◌<◌, List, ◌≡◌, length, take}
 use Rattle.std.proofs.Math.Option.{none}
 use Rattle.layout.specs.Walk.{fine, answered}
-use Rattle.section.specs.declared.limits.Limits.{Limits}
+use Rattle.section.specs.declared.{limits.Limits.{Limits}, model.Model.{Model}}
 use Rattle.section.specs.Model.{model_section}
-use Rattle.section.specs.declared.model.Model.{Model}
-use Rattle.clip.specs.Fields.{bone, morph}
-use Rattle.clip.specs.Build.{keys}
-use Rattle.clip.specs.Section.{bones, morphs, clip_refusal}
-use Rattle.strip.specs.Plain.{bone_groups, bone_fields, morph_groups, morph_fields}
-use Rattle.strip.specs.Keys.{AlikeKeys}
-use Rattle.strip.specs.Strip.{strip_of}
+use Rattle.clip.specs.{Fields.{bone, morph}, Build.{keys}, Section.{bones, morphs, clip_refusal}}
+use Rattle.strip.specs.{Plain.{bone_groups, bone_fields, morph_groups, morph_fields}, Keys.{AlikeKeys}, Strip.{strip_of}}
 use Rattle.strip.specs.Call.{Built, Outcome, strip_call}
 
 -- What is lent: the section with its start, the two work slices and the output, "whatever those held before".
@@ -37,7 +32,7 @@ module _ (limits : Limits) (width : ℕ) where
     pub answers : (outcome x).answer ≡ answered answer
 
   abbrev pub strip_out : (x : Lent) → Accepted x → List ℕ
-  strip_out x a = take a.answer.length (outcome x).output
+  strip_out x a = take a.answer.strip_length (outcome x).output
 
 -- "Slices long enough: each work slice by the section's own A + B, the output by its strip, any output where the build refuses."
 pub record LongEnough (width : ℕ) (x : Lent) (m : Model) : Type 0 where

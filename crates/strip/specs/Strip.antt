@@ -1,12 +1,8 @@
--- Document 01, "The strip". Definitions only.
+-- Document 01, "The strip", which is its word (FORMAT, The strip).
 use Rattle.std.specs.Prelude.{ℕ, zero, suc, List, [], ◌∷◌, ◌++◌, length}
 use Rattle.section.specs.declared.model.Model.{Model}
-use Rattle.clip.specs.Fields.{bone, morph}
-use Rattle.clip.specs.Keys.{Key}
-use Rattle.clip.specs.Build.{keys}
-use Rattle.clip.specs.Section.{bones, morphs}
-use Rattle.strip.specs.Plain.{Group, bone_groups, bone_fields, morph_groups, morph_fields}
-use Rattle.strip.specs.Keys.{little_endian, key_bytes}
+use Rattle.clip.specs.{Fields.{bone, morph}, Keys.{Key}, Build.{keys}, Section.{bones, morphs}}
+use Rattle.strip.specs.{Plain.{Group, bone_groups, bone_fields, morph_groups, morph_fields}, Keys.{little_endian, key_bytes}}
 
 -- The bytes of a count: "Bone count u16, morph count u16", "key count u16".
 abbrev pub count_width : ℕ

@@ -1,11 +1,8 @@
--- Document 01, "The strip": what the two work slices hold after an accepted build. Definitions only.
+-- Document 01, "The strip" (FORMAT, The strip call): what the two work slices hold after an accepted build.
 use Rattle.std.specs.Prelude.{ℕ, zero, suc, ◌+◌, cond, List, [], ◌∷◌, ◌++◌, ltb}
 use Rattle.std.proofs.Math.Option.{Option, none, some}
 use Rattle.section.specs.declared.model.Model.{Model}
-use Rattle.clip.specs.First.{given, first, member}
-use Rattle.clip.specs.Fields.{Records, Kind, bone, morph}
-use Rattle.clip.specs.Build.{chain_of}
-use Rattle.clip.specs.Section.{bones, morphs}
+use Rattle.clip.specs.{First.{given, first_met, member}, Fields.{Records, Kind, bone, morph}, Build.{chain_of}, Section.{bones, morphs}}
 
 -- f 0, f 1, .., f (n - 1)
 unfoldable pub each : ℕ → (ℕ → ℕ) → List ℕ
@@ -28,7 +25,7 @@ plus_one (some track) = track + 1
 
 -- "its track number plus 1, or 0 if loose"
 unfoldable pub track_mark : {B : Type 0} → Kind → Records B → ℕ → ℕ
-track_mark kind r position = plus_one (first r.tracks (λ t. given (member position (chain_of kind r t)) t))
+track_mark kind r position = plus_one (first_met r.tracks (λ t. given (member position (chain_of kind r t)) t))
 
 module _ (s : List ℕ) (m : Model) where
   -- "the bone record positions (from 0) by rising index, then the morphs'"

@@ -11,7 +11,7 @@ impl fmt::Display for Answer {
             Ok(built) => write!(
                 f,
                 "length {} reached {} loose {}",
-                built.length, built.reached, built.loose
+                built.strip_length, built.reached, built.loose
             ),
             Err(why) => write!(f, "refused {why}"),
         }

@@ -1,4 +1,5 @@
--- The build of one kind, from its parts. Assumes nothing.
+-- The build of one kind from its parts, scan, tracks and 15, in this order: the first that meets something is what the kind meets. Where
+-- the tracks meet nothing all chains end, so the counts are the definition's. Assumes nothing.
 use Prim.Native.Nat.{ℕ, ◌≤◌, ◌<◌}
 use native.Mathlib.Omega.{arith}
 use mathlib.Core.Bool.{Bool, true, false, cond}

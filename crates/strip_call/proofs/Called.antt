@@ -1,4 +1,5 @@
--- The strip call from a section that was read, or not. Assumes nothing.
+-- The strip call from a section that was read, or not: a refusal of reading leaves the slices as they were; of a section that was read the
+-- blocks stand in the bytes, and the slices are tested as the definition has it, A + B counted by the blocks. Assumes nothing.
 use Prim.Native.Nat.{ℕ, ◌+◌, ◌≤◌, ◌<◌}
 use native.Mathlib.Omega.{arith}
 use mathlib.Core.Bool.{Bool, true, false, cond, ◌||◌}
@@ -10,7 +11,7 @@ use lib.Dec.{ltb}
 use lib.IntN.{pos}
 use lib.ListN.{length}
 use Rattle.layout.specs.Walk.{refusal, fine, refused}
-use Rattle.binary.specs.Answers.{because}
+use Rattle.binary.specs.Answers.{reading_refusal}
 use Rattle.section.specs.Limits.{edition1}
 use Rattle.section.specs.Model.{model_section}
 use Rattle.section.specs.declared.model.Model.{Model}
@@ -23,12 +24,12 @@ use Rattle.strip.specs.Call.{Outcome, untouched, built, slices_tested, strip_cal
 use Rattle.strip.proofs.Length.{no_longer}
 use Rattle.blocks.specs.declared.block.Block.{Block}
 use Rattle.strip_call.specs.Blocks.{bone_block, morph_block}
-use Rattle.strip_call.specs.Answers.{Says}
+use Rattle.strip_call.specs.Answers.{LeavesOutcome}
 use Rattle.strip_call.specs.Building.{kind_meets}
 use Rattle.strip_call.specs.Bytes.{strip_bytes}
 use Rattle.strip_call.specs.Outcomes.{outcome_of, parts_of, WasRead}
 use Rattle.blocks.specs.Block.{Fits}
-use Rattle.strip_call.specs.declared.answer.Built.{Built as Told}
+use Rattle.strip_call.specs.declared.answer.Built.{Built as BuiltAnswer}
 use Rattle.std.specs.Prelude.{Result, Err}
 use Rattle.strip_call.specs.declared.answer.StripRefusal.{StripRefusal}
 use Rattle.strip_call.proofs.Same.{same_met, same-strip, same_outcome, bones-stand, morphs-stand}
@@ -59,7 +60,7 @@ module _ {s : List ℕ} {m : Model} (w : WasRead s m) {bb mb : Block} (eb : bb �
     unfolding tested
     by-test b e = rw (counted, e)
 
-    too_short : (ltb (length first) (bb.records.count + mb.records.count) || ltb (length second) (bb.records.count + mb.records.count)) ≡ true → Says (slices_tested first second output count_width s m ((bones s m).additional + (morphs s m).additional)) (Err (StripRefusal.WorkTooShort (bb.records.count + mb.records.count))) first second output
+    too_short : (ltb (length first) (bb.records.count + mb.records.count) || ltb (length second) (bb.records.count + mb.records.count)) ≡ true → LeavesOutcome (slices_tested first second output count_width s m ((bones s m).additional + (morphs s m).additional)) (Err (StripRefusal.WorkTooShort (bb.records.count + mb.records.count))) first second output
     unfolding tested
     too_short e =
         let o = by-test true e in
@@ -70,29 +71,29 @@ module _ {s : List ℕ} {m : Model} (w : WasRead s m) {bb mb : Block} (eb : bb �
           leaves_output = sym (ap (λ (x : Outcome). x.output) o);
         }
 
-    pub first_short : length first < bb.records.count + mb.records.count → Says (slices_tested first second output count_width s m ((bones s m).additional + (morphs s m).additional)) (Err (StripRefusal.WorkTooShort (bb.records.count + mb.records.count))) first second output
+    pub first_short : length first < bb.records.count + mb.records.count → LeavesOutcome (slices_tested first second output count_width s m ((bones s m).additional + (morphs s m).additional)) (Err (StripRefusal.WorkTooShort (bb.records.count + mb.records.count))) first second output
     first_short less = too_short (rw (lt-ltb (length first) (bb.records.count + mb.records.count) less))
 
-    pub second_short : bb.records.count + mb.records.count ≤ length first → length second < bb.records.count + mb.records.count → Says (slices_tested first second output count_width s m ((bones s m).additional + (morphs s m).additional)) (Err (StripRefusal.WorkTooShort (bb.records.count + mb.records.count))) first second output
+    pub second_short : bb.records.count + mb.records.count ≤ length first → length second < bb.records.count + mb.records.count → LeavesOutcome (slices_tested first second output count_width s m ((bones s m).additional + (morphs s m).additional)) (Err (StripRefusal.WorkTooShort (bb.records.count + mb.records.count))) first second output
     second_short fits less = too_short (rw (le-ltb (length first) (bb.records.count + mb.records.count) fits, lt-ltb (length second) (bb.records.count + mb.records.count) less))
 
-    pub long-enough : {r : Result Told StripRefusal} {first' second' output' : List ℕ} → bb.records.count + mb.records.count ≤ length first → bb.records.count + mb.records.count ≤ length second → Says (outcome_of first second output (bb.records.count + mb.records.count) (parts_of s bb mb)) r first' second' output' → Says (slices_tested first second output count_width s m ((bones s m).additional + (morphs s m).additional)) r first' second' output'
+    pub long-enough : {r : Result BuiltAnswer StripRefusal} {first' second' output' : List ℕ} → bb.records.count + mb.records.count ≤ length first → bb.records.count + mb.records.count ≤ length second → LeavesOutcome (outcome_of first second output (bb.records.count + mb.records.count) (parts_of s bb mb)) r first' second' output' → LeavesOutcome (slices_tested first second output count_width s m ((bones s m).additional + (morphs s m).additional)) r first' second' output'
     unfolding tested
     long-enough {r} {first'} {second'} {output'} room₁ room₂ says =
         let o = by-test false (rw (le-ltb (length first) (bb.records.count + mb.records.count) room₁, le-ltb (length second) (bb.records.count + mb.records.count) room₂)) in
         let parts : built first second output count_width s m (bb.records.count + mb.records.count) (clip_refusal s m) ≡ outcome_of first second output (bb.records.count + mb.records.count) (parts_of s bb mb) =
         same_outcome s m first second output (bb.records.count + mb.records.count) ∙ ap (λ (k : Block). outcome_of first second output (bb.records.count + mb.records.count) (parts_of s k (morph_block m))) (sym eb) ∙ ap (λ (k : Block). outcome_of first second output (bb.records.count + mb.records.count) (parts_of s bb k)) (sym em) in
-        subst (λ (x : Outcome). Says x r first' second' output') (sym (o ∙ parts)) says
+        subst (λ (x : Outcome). LeavesOutcome x r first' second' output') (sym (o ∙ parts)) says
 
 module _ (s : List ℕ) (start : ℕ) (first second output : List ℕ) where
-  pub not-read : (why : Refusal) → refused (because why) ≡ model_section edition1 s start → Says (strip_call edition1 count_width s start first second output) (Err (StripRefusal.Reading why)) first second output
+  pub not-read : (why : Refusal) → refused (reading_refusal why) ≡ model_section edition1 s start → LeavesOutcome (strip_call edition1 count_width s start first second output) (Err (StripRefusal.Reading why)) first second output
   unfolding strip_call
   not-read why read =
       let walk = sym read in
       record { answers = rw walk; leaves_first = rw walk; leaves_second = rw walk; leaves_output = rw walk }
 
   module _ (m : Model) (end : ℕ) (read : fine m end ≡ model_section edition1 s start) where
-    pub read-says : (r : Result Told StripRefusal) (first' second' output' : List ℕ) → Says (slices_tested first second output count_width s m ((bones s m).additional + (morphs s m).additional)) r first' second' output' → Says (strip_call edition1 count_width s start first second output) r first' second' output'
+    pub read-says : (r : Result BuiltAnswer StripRefusal) (first' second' output' : List ℕ) → LeavesOutcome (slices_tested first second output count_width s m ((bones s m).additional + (morphs s m).additional)) r first' second' output' → LeavesOutcome (strip_call edition1 count_width s start first second output) r first' second' output'
     unfolding strip_call
     read-says r first' second' output' says = rw (← read) says
 

@@ -1,4 +1,4 @@
--- What the build of one kind told, and that each record is then reached or loose. Assumes nothing.
+-- Each record of a kind whose build is accepted is reached or loose, so of both kinds there are at most 131,068. Assumes nothing.
 use Prim.Native.Nat.{ℕ, ◌+◌, ◌≤◌}
 use native.Mathlib.Omega.{arith}
 use mathlib.Core.List.{List}

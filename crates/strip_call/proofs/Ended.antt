@@ -1,4 +1,5 @@
--- How a run of the strip call ends, by what its parts gave. Assumes nothing.
+-- How an accepted run ends: each work slice holds the bones' part and then the morphs' and is otherwise as it was (`both-over`), reached
+-- and loose are the sums of both kinds, and the output begins with the strip. Assumes nothing.
 use Prim.Native.Nat.{ℕ, ◌+◌, ◌≤◌}
 use native.Mathlib.Omega.{arith}
 use mathlib.Core.List.{List, ◌++◌}
@@ -13,13 +14,13 @@ use Rattle.keys.proofs.Placing.{placed_first}
 use Rattle.strip.specs.Call.{Built, over}
 use Rattle.blocks.specs.declared.block.Block.{Block}
 use Rattle.strip_call.specs.Parts.{part, Outside}
-use Rattle.strip_call.specs.Answers.{Says}
+use Rattle.strip_call.specs.Answers.{LeavesOutcome}
 use Rattle.std.specs.Prelude.{Ok}
 use Rattle.strip_call.specs.Building.{ClipPassed}
 use Rattle.strip_call.specs.Outcomes.{outcome_of, parts_of}
 use Rattle.strip_call.specs.Bytes.{strip_bytes}
 
-same_answer : (l l' r r' k k' : ℕ) → l ≡ l' → r ≡ r' → k ≡ k' → ◌≡◌ {A = Answer Built} (answered (record { length = l; reached = r; loose = k })) (answered (record { length = l'; reached = r'; loose = k' }))
+same_answer : (l l' r r' k k' : ℕ) → l ≡ l' → r ≡ r' → k ≡ k' → ◌≡◌ {A = Answer Built} (answered (record { strip_length = l; reached = r; loose = k })) (answered (record { strip_length = l'; reached = r'; loose = k' }))
 same_answer l l' r r' k k' el er ek = rw (el, er, ek)
 
 -- Two parts written, and nothing else.
@@ -38,7 +39,7 @@ module _ (s : List ℕ) (bones morphs : Block) {first second first₁ second₁ 
     met-none : (parts_of s bones morphs).met ≡ none
     met-none = rw (passed.of_bones.meets, passed.of_morphs.meets)
 
-    pub written-says : bones.records.count + morphs.records.count ≤ length first → bones.records.count + morphs.records.count ≤ length second → {output output' : List ℕ} {end : ℕ} → length (strip_bytes s bones morphs) ≤ length output → Wrote 0 (strip_bytes s bones morphs) output end output' → Says (outcome_of first second output (bones.records.count + morphs.records.count) (parts_of s bones morphs)) (Ok (record { length = end; reached = reached; loose = left })) first₁ second₁ output'
+    pub written-says : bones.records.count + morphs.records.count ≤ length first → bones.records.count + morphs.records.count ≤ length second → {output output' : List ℕ} {end : ℕ} → length (strip_bytes s bones morphs) ≤ length output → Wrote 0 (strip_bytes s bones morphs) output end output' → LeavesOutcome (outcome_of first second output (bones.records.count + morphs.records.count) (parts_of s bones morphs)) (Ok (record { strip_length = end; reached = reached; loose = left })) first₁ second₁ output'
     written-says room₁ room₂ {output} {output'} {end} fits w =
         let wide = le-ltb (length output) (length (strip_bytes s bones morphs)) fits in
         let ends = w.ends in
@@ -53,7 +54,7 @@ module _ (s : List ℕ) (bones morphs : Block) {first second first₁ second₁ 
         let all = c.all_reached in
         let rest = c.all_loose in
         let er : reached ≡ (parts_of s bones morphs).reached = omega (arith, all, r₁, r₂) in
-        let el : left ≡ (parts_of s bones morphs).loose_ones = omega (arith, rest, l₁, l₂) in
+        let el : left ≡ (parts_of s bones morphs).loose_count = omega (arith, rest, l₁, l₂) in
         let out : output' ≡ over (strip_bytes s bones morphs) output = w.leaves ∙ placed_first (strip_bytes s bones morphs) output in
         record {
           answers = rw (met-none, wide) (same_answer end (length (strip_bytes s bones morphs)) reached _ left _ long er el);

@@ -1,4 +1,5 @@
--- What the strip call answers is fixed by its contract (specs, Fixed): it can be told back from what document 01 says of it. Assumes nothing.
+-- What the strip call answers is fixed by its contract (specs, Fixed): an answer can be told back from what document 01 says of it
+-- (`back`), one case for each refusal's number, so two answers that read the same are the same. Assumes nothing.
 use mathlib.Core.Bool.{cond}
 use mathlib.Core.Path.{◌≡◌, refl, sym, ap, ◌∙◌}
 use lib.Dec.{eqb}
@@ -11,8 +12,8 @@ use Rattle.strip.specs.Call as Definition
 use Rattle.strip.specs.Runs.{Lent, outcome}
 use Rattle.blocks.specs.declared.fault.Fault.{Fault}
 use Rattle.blocks.proofs.Back.{number, value, fault_back, fault-back}
-use Rattle.strip_call.specs.Answers.{refusal_read, strip_read}
-use Rattle.strip_call.specs.Demand3.{Run}
+use Rattle.strip_call.specs.Answers.{strip_refusal, strip_read}
+use Rattle.strip_call.specs.Run.{Run}
 use Rattle.strip_call.specs.Fixed.{Fixed}
 use Rattle.strip_call.specs.declared.answer.Built.{Built}
 use Rattle.strip_call.specs.declared.answer.StripRefusal.{StripRefusal}
@@ -28,7 +29,7 @@ refusal_back why =
     (cond (eqb why.number 19) (StripRefusal.Reading Refusal.Absent)
     (cond (eqb why.number 20) (StripRefusal.Reading (Refusal.CountAboveLimit (number (value why 0)))) (StripRefusal.Build (fault_back why))))))))
 
-fault-only : (f : Fault) → refusal_back (refusal_read (StripRefusal.Build f)) ≡ StripRefusal.Build (fault_back (refusal_read (StripRefusal.Build f)))
+fault-only : (f : Fault) → refusal_back (strip_refusal (StripRefusal.Build f)) ≡ StripRefusal.Build (fault_back (strip_refusal (StripRefusal.Build f)))
 fault-only (Fault.NegativeIndex kind index) = refl
 fault-only (Fault.IndexBelowCount kind index count) = refl
 fault-only (Fault.RepeatedIndex kind index) = refl
@@ -42,7 +43,7 @@ fault-only (Fault.InvalidOrientation bone frame) = refl
 fault-only (Fault.InvalidWeight morph frame) = refl
 fault-only (Fault.Disconnected kind records) = refl
 
-refusal-back : (why : StripRefusal) → refusal_back (refusal_read why) ≡ why
+refusal-back : (why : StripRefusal) → refusal_back (strip_refusal why) ≡ why
 refusal-back (StripRefusal.Reading (Refusal.TooShort at)) = refl
 refusal-back (StripRefusal.Reading (Refusal.NegativeCount at)) = refl
 refusal-back (StripRefusal.Reading (Refusal.CountAboveLimit at)) = refl
@@ -53,7 +54,7 @@ refusal-back (StripRefusal.WorkTooShort places) = refl
 refusal-back (StripRefusal.OutputTooShort length) = refl
 
 abbrev back : Answer Definition.Built → Result Built StripRefusal
-back (answered b) = Ok (record { length = b.length; reached = b.reached; loose = b.loose })
+back (answered b) = Ok (record { strip_length = b.strip_length; reached = b.reached; loose = b.loose })
 back (declined why) = Err (refusal_back why)
 
 back-read : (r : Result Built StripRefusal) → back (strip_read r) ≡ r
@@ -69,9 +70,9 @@ fixed =
       answers = same-answer;
       runs = λ x y lent.
           let same = ap (λ (l : Lent). outcome edition1 count_width l) lent in (
-            same-answer x y (x.says.answers ∙ ap (λ (o : Definition.Outcome). o.answer) same ∙ sym y.says.answers),
-            x.says.leaves_first ∙ ap (λ (o : Definition.Outcome). o.first) same ∙ sym y.says.leaves_first,
-            x.says.leaves_second ∙ ap (λ (o : Definition.Outcome). o.second) same ∙ sym y.says.leaves_second,
-            x.says.leaves_output ∙ ap (λ (o : Definition.Outcome). o.output) same ∙ sym y.says.leaves_output,
+            same-answer x y (x.call.answers ∙ ap (λ (o : Definition.Outcome). o.answer) same ∙ sym y.call.answers),
+            x.call.leaves_first ∙ ap (λ (o : Definition.Outcome). o.first) same ∙ sym y.call.leaves_first,
+            x.call.leaves_second ∙ ap (λ (o : Definition.Outcome). o.second) same ∙ sym y.call.leaves_second,
+            x.call.leaves_output ∙ ap (λ (o : Definition.Outcome). o.output) same ∙ sym y.call.leaves_output,
           );
     }

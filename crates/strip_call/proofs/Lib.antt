@@ -7,3 +7,4 @@ pub mod Ended
 pub mod Called
 pub mod TwoRuns
 pub mod Fixed
+pub mod ReachedAndLoose

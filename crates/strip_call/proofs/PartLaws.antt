@@ -1,4 +1,5 @@
--- Parts of slices, lent and put back. Assumes nothing.
+-- Parts of slices, lent and put back: a part that comes back as long as it was holds what was left in it, and nothing before or behind it
+-- changes; so of two parts side by side nothing outside both does. Assumes nothing.
 use Prim.Native.Nat.{ℕ, ◌+◌, ◌-◌, ◌≤◌}
 use native.Mathlib.Omega.{arith}
 use mathlib.Core.List.{List, ◌++◌}

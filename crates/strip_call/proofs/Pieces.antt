@@ -1,4 +1,5 @@
--- The strip is written in four pieces. Assumes nothing.
+-- The strip is written in four pieces, one behind the other: the two counts, the bones' tracks and the morphs'. A piece written behind what
+-- is written so far leaves both, and room for the strip is room for each (keys, Placing). Assumes nothing.
 use Prim.Native.Nat.{ℕ, ◌+◌, ◌≤◌}
 use native.Mathlib.Omega.{arith}
 use mathlib.Core.List.{List, ◌++◌}

@@ -1,4 +1,5 @@
--- The definition of the strip call, by what its blocks give: bodies known by their offsets make no difference. Assumes nothing.
+-- The definition of the strip call, by what its blocks give: of bodies it asks nothing but the tests and the fields of keys, so bodies
+-- known by their offsets make no difference (clip and strip, Bodies). Assumes nothing.
 use Prim.Native.Nat.{ℕ}
 use native.Mathlib.Omega.{arith}
 use mathlib.Core.List.{List}
@@ -42,7 +43,7 @@ module _ (s : List ℕ) (m : Model) where
   unfolding reached_records bones morphs records_at initial_at additional_at bone_block morph_block
   same-reached = rw (same-links (bone_body s) bone (links s (bone_block m)), same-links (morph_body s) morph (links s (morph_block m)))
 
-  pub same_left : loose_records s m ≡ (parts_of s (bone_block m) (morph_block m)).loose_ones
+  pub same_left : loose_records s m ≡ (parts_of s (bone_block m) (morph_block m)).loose_count
   unfolding loose_records bones morphs records_at initial_at additional_at bone_block morph_block
   same_left = rw (same-loose (bone_body s) bone (links s (bone_block m)), same-loose (morph_body s) morph (links s (morph_block m)))
 

@@ -1,4 +1,5 @@
--- Demand 3 for any two runs of the strip call (specs, Demand3), from the contract and the theorems about the definition. Assumes nothing.
+-- Demand 3 for any two runs of the strip call (specs, Demand3): by the contract a run is accepted exactly where the definition accepts it,
+-- with the same strip (`down`, `up`, `same_out`), so the theorems about the definition hold of runs. Assumes nothing.
 use mathlib.Core.Path.{◌≡◌, refl, sym, ap, ◌∙◌}
 use lib.ListN.{take}
 use Rattle.layout.specs.Walk.{answered}
@@ -8,29 +9,29 @@ use Rattle.strip.specs.Runs as Strip1
 use Rattle.strip.proofs.Demand3.{demand3}
 use Rattle.clip.proofs.Follow.{no_answer}
 use Rattle.strip_call.specs.Answers.{strip_read}
-use Rattle.strip_call.specs.Demand3.{Run, Accepted, strip_out, MatchedRuns, AcceptedRuns}
+use Rattle.strip_call.specs.Run.{Run, Accepted, strip_out}
+use Rattle.strip_call.specs.Demand3.{MatchedRuns, AcceptedRuns}
 use Rattle.strip_call.specs.declared.answer.Built.{Built}
 use Rattle.strip_call.specs.declared.answer.StripRefusal.{StripRefusal}
 use Rattle.std.specs.Prelude.{Result, Ok, Err}
 
 module _ (x : Run) where
   -- A run that answers a strip is accepted by the definition, with the same strip; and the other way round.
-  down : Accepted x → Strip1.Accepted edition1 count_width x.lent
+  abbrev pub down : Accepted x → Strip1.Accepted edition1 count_width x.lent
   down a =
       record {
-        answer = record { length = a.length; reached = a.reached; loose = a.loose_ones };
-        answers = sym x.says.answers ∙ ap strip_read a.answers;
+        answer = record { strip_length = a.built.strip_length; reached = a.built.reached; loose = a.built.loose };
+        answers = sym x.call.answers ∙ ap strip_read a.answers;
       }
 
   same_out : (a : Accepted x) → strip_out x a ≡ Strip1.strip_out edition1 count_width x.lent (down a)
-  unfolding down
-  same_out a = ap (take a.length) x.says.leaves_output
+  same_out a = ap (take a.built.strip_length) x.call.leaves_output
 
   up : Strip1.Accepted edition1 count_width x.lent → Accepted x
-  up a = go x.answer refl (x.says.answers ∙ a.answers)
+  up a = go x.answer refl (x.call.answers ∙ a.answers)
     where
       go : (r : Result Built StripRefusal) → x.answer ≡ r → strip_read x.answer ≡ answered a.answer → Accepted x
-      go (Ok built) is e = record { length = built.length; reached = built.reached; loose_ones = built.loose; answers = is }
+      go (Ok built) is e = record { built = built; answers = is }
       go (Err why) is e = no_answer (sym (ap strip_read is) ∙ e)
 
 pub matched-runs : MatchedRuns

@@ -1,18 +1,16 @@
--- Where a model section's bone and morph records stand. Definitions only.
+-- Where a model section's bone and morph records stand.
 use Rattle.std.specs.Prelude.{ℕ, List}
 use Rattle.layout.specs.Records.{size}
 use Rattle.layout.specs.Records as Table
-use Rattle.section.specs.declared.keyframes.Keyframes.{Keyframes}
-use Rattle.section.specs.declared.model.Model.{Model}
-use Rattle.blocks.specs.declared.block.Block.{Block}
-use Rattle.blocks.specs.declared.kind.Kind.{Kind}
+use Rattle.section.specs.declared.{keyframes.Keyframes.{Keyframes}, model.Model.{Model}}
+use Rattle.blocks.specs.declared.{block.Block.{Block}, kind.Kind.{Kind}}
 
 abbrev pub block_of : Kind → List ℕ → ℕ → Keyframes → Block
 block_of kind items tracks k =
     record {
       kind = kind;
-      initials = record { first = k.initial_offset; width = size (Table.initial items); count = tracks };
-      records = record { first = k.offset; width = size (Table.additional items); count = k.count };
+      initials = record { offset = k.initial_offset; width = size (Table.initial items); count = tracks };
+      records = record { offset = k.offset; width = size (Table.additional items); count = k.count };
     }
 
 unfoldable pub bone_block : Model → Block

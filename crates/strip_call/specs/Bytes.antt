@@ -1,4 +1,4 @@
--- The strip's bytes, where bodies are known by their offsets. Definitions only.
+-- The strip's bytes, where bodies are known by their offsets.
 use Rattle.std.specs.Prelude.{ℕ, List, ◌++◌}
 use Rattle.strip.specs.Keys.{little_endian}
 use Rattle.blocks.specs.declared.block.Block.{Block}

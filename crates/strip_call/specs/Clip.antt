@@ -1,4 +1,4 @@
--- The bytes of a clip's strip. Definitions only.
+-- The bytes of a clip's strip.
 use Rattle.std.specs.Prelude.{ℕ, List, ◌≡◌, ◌≤◌, ◌<◌, Option, Some, None}
 use Rattle.strip_call.specs.Bytes.{strip_bytes}
 use Rattle.strip_call.specs.declared.clip_bytes.Clip.{Clip}

@@ -1,7 +1,6 @@
--- "Nothing is left open": what the strip call answers is fixed by its contract. Definitions only; the proof is in proofs/Fixed.antt.
+-- "Nothing is left open": what the strip call answers is fixed by its contract. The proof is in proofs/Fixed.antt.
 use Rattle.std.specs.Prelude.{◌≡◌}
-use Rattle.strip_call.specs.Answers.{strip_read}
-use Rattle.strip_call.specs.Demand3.{Run}
+use Rattle.strip_call.specs.{Answers.{strip_read}, Run.{Run}}
 
 pub record Fixed : Type 0 where
   -- Two answers that read the same in document 01's terms are the same: no two cases, kinds, tracks or values of a refusal do.

@@ -6,5 +6,7 @@ pub mod Bytes
 pub mod Clip
 pub mod Need
 pub mod Outcomes
+pub mod Run
 pub mod Demand3
 pub mod Fixed
+pub mod ReachedAndLoose

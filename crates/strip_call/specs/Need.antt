@@ -1,4 +1,4 @@
--- How many places of each work slice the records of both kinds take: "A + B". Definitions only.
+-- How many places of each work slice the records of both kinds take: "A + B".
 use Rattle.std.specs.Prelude.{ℕ, ◌+◌}
 use Rattle.strip_call.specs.declared.model_records.ModelRecords.{ModelRecords}
 

@@ -1,4 +1,4 @@
--- A part of a slice, and what is outside it. Definitions only.
+-- A part of a slice, and what is outside it.
 use Rattle.std.specs.Prelude.{ℕ, ◌+◌, List, ◌≡◌, length, take, drop}
 
 -- n places from one on.

@@ -16,7 +16,7 @@ pub struct Counted {
 // The strip's length, the links followed and the loose records.
 #[derive(Clone, Copy, Debug, PartialEq, Eq)]
 pub struct Built {
-    pub length: usize,
+    pub strip_length: usize,
     pub reached: usize,
     pub loose: usize,
 }
@@ -52,11 +52,11 @@ impl From<Fault> for StripRefusal {
 }
 
 impl StripRefusal {
-    ghost use Rattle.strip_call.specs.Answers.{refusal_read};
+    ghost use Rattle.strip_call.specs.Answers.{strip_refusal};
 
     // Document 01's number.
     pub fn number(self) -> u8
-        ensures { result ≡ (refusal_read self).number }
+        ensures { result ≡ (strip_refusal self).number }
     {
         match self {
             StripRefusal::Reading(why) => why.number(),

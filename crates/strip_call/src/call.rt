@@ -1,12 +1,12 @@
 // The strip call.
 ghost use Rattle.std.specs.Prelude.{◌+◌, ◌≤◌, length};
-ghost use Rattle.section.specs.Limits.{edition1};
 ghost use Rattle.strip.specs.Strip.{count_width};
-ghost use Rattle.strip.specs.Call.{slices_tested, strip_call};
+ghost use Rattle.strip.specs.Call.{slices_tested};
 ghost use Rattle.clip.specs.Section.{bones, morphs};
-ghost use Rattle.strip_call.specs.Answers.{Says};
+ghost use Rattle.strip_call.specs.Answers.{LeavesOutcome};
 ghost use Rattle.strip_call.specs.Need.{need_of};
 ghost use Rattle.strip_call.specs.Outcomes.{records_outcome, Leaves, WasRead};
+ghost use Rattle.strip_call.specs.Run.{StripCall};
 
 use crate::answer::{Built, StripRefusal};
 use crate::clip_bytes::Clip;
@@ -51,9 +51,9 @@ fn build_and_write<'a>(
     if let Some(length) = clip.too_long(output.len()) {
         return Err(StripRefusal::OutputTooShort(length));
     }
-    let length = clip.write(output);
+    let strip_length = clip.write(output);
     Ok(Built {
-        length,
+        strip_length,
         reached: counted.reached,
         loose: counted.loose,
     })
@@ -68,7 +68,7 @@ fn strip_records(
 ) -> Result<Built, StripRefusal>
     requires first_long_enough { need_of records.now ≤ length first.old }
     requires second_long_enough { need_of records.now ≤ length second.old }
-    ensures { Says (records_outcome records.now first.old second.old output.old) result first.new second.new output.new }
+    ensures { LeavesOutcome (records_outcome records.now first.old second.old output.old) result first.new second.new output.new }
 {
     let built = build_and_write(records, first, second, output);
     if built.is_err() {
@@ -89,7 +89,7 @@ fn strip_model(
     output: &mut [u8],
 ) -> Result<Built, StripRefusal>
     requires { WasRead s.now m.now }
-    ensures { Says (slices_tested first.old second.old output.old count_width s.now m.now ((bones s.now m.now).additional + (morphs s.now m.now).additional)) result first.new second.new output.new }
+    ensures { LeavesOutcome (slices_tested first.old second.old output.old count_width s.now m.now ((bones s.now m.now).additional + (morphs s.now m.now).additional)) result first.new second.new output.new }
 {
     let bones = Records {
         section: s,
@@ -116,7 +116,7 @@ pub fn strip(
     second: &mut [u16],
     output: &mut [u8],
 ) -> Result<Built, StripRefusal>
-    ensures { Says (strip_call edition1 count_width section.now start first.old second.old output.old) result first.new second.new output.new }
+    ensures { StripCall (record { section = section.now; start = start; first = first.old; second = second.old; output = output.old }) result first.new second.new output.new }
 {
     let (m, _) = model::read_model(section, start)?;
     strip_model(section, &m, first, second, output)

@@ -23,12 +23,12 @@ fn block(kind: Kind, tracks: usize, keyframes: Keyframes) -> Block
     Block {
         kind,
         initials: Field {
-            first: keyframes.initial_offset,
+            offset: keyframes.initial_offset,
             width: initial,
             count: tracks,
         },
         records: Field {
-            first: keyframes.offset,
+            offset: keyframes.offset,
             width: additional,
             count: keyframes.count as usize,
         },

@@ -1,2 +1,4 @@
 pub mod Answers
+pub mod Run
 pub mod Demand3
+pub mod ReachedAndLoose

@@ -1,23 +1,21 @@
 // The strip call for C: 0 is returned and the strip's length, reached and loose are written, or a refusal's number is returned and its
 // values are written, as far as `values` reaches. Where document 01 has a refusal say bone or morph, 0 or 1 is written first.
-ghost use Rattle.section.specs.Limits.{edition1};
-ghost use Rattle.strip.specs.Strip.{count_width};
-ghost use Rattle.strip.specs.Call.{strip_call};
-ghost use Rattle.strip_call.specs.Answers.{refusal_read};
-ghost use Rattle.strip_export.specs.Answers.{Refuses, Leaves};
-ghost use Rattle.binary.specs.Answers.{because};
+ghost use Rattle.strip_call.specs.Answers.{strip_refusal};
+ghost use Rattle.strip_export.specs.Answers.{Refuses};
+ghost use Rattle.strip_export.specs.Run.{StripCallForC};
+ghost use Rattle.binary.specs.Answers.{reading_refusal};
 ghost use Rattle.blocks.specs.Fault.{fault_of};
 
 use crate::values;
+use answer_numbers::put;
 use binary::refusal::Refusal;
 use blocks::fault::Fault;
-use numbers::put;
 use strip_call::answer::StripRefusal;
 
 fn not_read(numbers: &mut [u64], why: Refusal) -> u32
-    ensures { Refuses (because why) numbers.old result numbers.new }
+    ensures { Refuses (reading_refusal why) numbers.old result numbers.new }
 {
-    numbers::refusals::refused(numbers, why)
+    answer_numbers::refusals::refused(numbers, why)
 }
 
 fn not_built(numbers: &mut [u64], fault: Fault) -> u32
@@ -28,7 +26,7 @@ fn not_built(numbers: &mut [u64], fault: Fault) -> u32
 }
 
 fn refused(numbers: &mut [u64], why: StripRefusal) -> u32
-    ensures { Refuses (refusal_read why) numbers.old result numbers.new }
+    ensures { Refuses (strip_refusal why) numbers.old result numbers.new }
 {
     match why {
         StripRefusal::Reading(why) => not_read(numbers, why),
@@ -49,7 +47,7 @@ pub extern "C" fn limdroven_strip(
     output: &mut [u8],
     values: &mut [u64],
 ) -> u32
-    ensures { Leaves (strip_call edition1 count_width section.now start first.old second.old output.old) values.old result first.new second.new output.new values.new }
+    ensures { StripCallForC (record { section = section.now; start = start; first = first.old; second = second.old; output = output.old }) values.old result first.new second.new output.new values.new }
 {
     match strip_call::call::strip(section, start, first, second, output) {
         Err(why) => refused(values, why),

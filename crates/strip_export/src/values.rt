@@ -2,17 +2,17 @@
 ghost use Rattle.std.specs.Prelude.{◌≡◌, [], ◌∷◌};
 ghost use Rattle.std.specs.Int.{w32};
 ghost use Rattle.std.proofs.Common.{of_z};
-ghost use Rattle.numbers.specs.Put.{put as written};
+ghost use Rattle.answer_numbers.specs.Put.{put as written};
 ghost use Rattle.clip.specs.Fields.{kind_value};
 ghost use Rattle.blocks.specs.Kind.{kind_of};
 ghost use Rattle.blocks.specs.Track.{kind_of_track, number_of_track};
 ghost use Rattle.blocks.specs.Fault.{fault_of};
 ghost use Rattle.strip_export.specs.Answers.{values as values_of};
 
+use answer_numbers::put;
 use blocks::fault::Fault;
 use blocks::kind::Kind;
 use blocks::track::TrackIndex;
-use numbers::put;
 use strip_call::answer::Built;
 
 fn pattern(value: i32) -> u64
@@ -80,10 +80,10 @@ pub fn put_fault(values: &mut [u64], fault: Fault)
 }
 
 pub fn put_built(values: &mut [u64], built: Built)
-    ensures { values.new ≡ written 0 (built.length ∷ built.reached ∷ built.loose ∷ []) values.old }
+    ensures { values.new ≡ written 0 (built.strip_length ∷ built.reached ∷ built.loose ∷ []) values.old }
 {
     let numbers = [
-        built.length as u64,
+        built.strip_length as u64,
         built.reached as u64,
         built.loose as u64,
     ];

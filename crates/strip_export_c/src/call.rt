@@ -1,8 +1,5 @@
 // The strip call for C: what it returns and writes stands at `strip_export::call`.
-ghost use Rattle.section.specs.Limits.{edition1};
-ghost use Rattle.strip.specs.Strip.{count_width};
-ghost use Rattle.strip.specs.Call.{strip_call};
-ghost use Rattle.strip_export.specs.Answers.{Leaves};
+ghost use Rattle.strip_export.specs.Run.{StripCallForC};
 
 #[unsafe(no_mangle)]
 pub extern "C" fn limdroven_strip(
@@ -13,7 +10,7 @@ pub extern "C" fn limdroven_strip(
     output: &mut [u8],
     values: &mut [u64],
 ) -> u32
-    ensures { Leaves (strip_call edition1 count_width section.now start first.old second.old output.old) values.old result first.new second.new output.new values.new }
+    ensures { StripCallForC (record { section = section.now; start = start; first = first.old; second = second.old; output = output.old }) values.old result first.new second.new output.new values.new }
 {
     strip_export::call::limdroven_strip(section, start, first, second, output, values)
 }

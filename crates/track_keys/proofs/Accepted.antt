@@ -1,4 +1,5 @@
--- Where the tracks meet nothing, no key of theirs does, and a morph key is answered as its value. Assumes nothing.
+-- Where the tracks meet nothing, no key of theirs does, whatever frames are before it: what meets nothing meets nothing in each of its
+-- parts (`or-none`). So a morph key is answered as its value, and its weight is finite. Assumes nothing.
 use Prim.Native.Nat.{ℕ}
 use mathlib.Core.Bool.{Bool, true, false, not}
 use mathlib.Core.List.{List, [], ◌∷◌}

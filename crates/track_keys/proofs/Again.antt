@@ -1,4 +1,5 @@
--- The chain followed again, its frames marked in the sorted list. Assumes nothing.
+-- The chain followed again: the frames of keys 0 to i are different, and those of the first i records are marked in the sorted list
+-- (`Again`). So the next frame is the first repeat exactly if it is the initial record's or is marked. Assumes nothing.
 use Prim.Native.Nat.{ℕ, zero, suc, ◌+◌, ◌≤◌, ◌<◌}
 use native.Mathlib.Numerals.{add-one}
 use native.Mathlib.Omega.{arith}
@@ -50,7 +51,7 @@ module _ {s : List ℕ} {b : Block} {slots : List ℕ} {track : ℕ} (x : Ends s
     again-rise = met-rise s (frame_field b) within (chain_at s b track) after chain-sorted below once list i a.met
 
     pub again-long : length list ≡ length before
-    again-long = a.met.length ∙ sorted.length
+    again-long = a.met.as_many ∙ sorted.as_many
 
     -- Where all records are passed, no frame is repeated.
     pub again-end : i ≡ length before → FirstRepeat (frames_at s b track) (length before + 1) (length before + 1)

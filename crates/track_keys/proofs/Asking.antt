@@ -1,4 +1,5 @@
--- The keys of a track's records asked one by one, and the tracks one by one. Assumes nothing.
+-- The tracks before this one meet nothing (`Tracking`), and what this one meets is what its records from i on meet (`Asking`): so the first
+-- key that is refused is what is met. A repeated frame is refused, so i stays below the key that has the first one. Assumes nothing.
 use Prim.Native.Nat.{ℕ, zero, suc, ◌+◌, ◌≤◌, ◌<◌}
 use native.Mathlib.Numerals.{add-one}
 use native.Mathlib.Omega.{arith}

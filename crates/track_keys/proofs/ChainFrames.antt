@@ -1,4 +1,5 @@
--- The frames of a chain, as a field of its records. Assumes nothing.
+-- The frames of a chain as a field of its records, 4 bytes behind the index: a list that holds the chain has each position once, as the
+-- sort asks, and if the sorted list tells of no repeat, no frame of the track is repeated. Assumes nothing.
 use Prim.Native.Nat.{ℕ, zero, suc, ◌+◌, ◌≤◌, ◌<◌}
 use native.Mathlib.Numerals.{add-one}
 use native.Mathlib.Omega.{arith}
@@ -46,14 +47,14 @@ distinct-once x (p ∷ ps) d = go (eqb x p) refl (distinct-once x ps d.1)
 
 -- A frame stands behind its record's index.
 abbrev pub frame_field : Block → Field
-frame_field b = record { first = b.records.first + 4; width = b.records.width; count = b.records.count }
+frame_field b = record { offset = b.records.offset + 4; width = b.records.width; count = b.records.count }
 
 module _ (s : List ℕ) (b : Block) where
   pub frame-field : Fits s b → Within s (frame_field b)
   frame-field fits =
       let wide = fits.record_width in
       let few = fits.few_records in
-      within_block s (frame_field b) b.records.first 4 refl fits.records (omega (arith, wide)) (omega (arith, few))
+      within_block s (frame_field b) b.records.offset 4 refl fits.records (omega (arith, wide)) (omega (arith, few))
 
   pub frame_is : (p : ℕ) → number_of s (frame_field b) p ≡ ((links s b).at p).frame
   unfolding number_of additional_at

@@ -1,4 +1,4 @@
--- Numbers that rise, and numbers of which none is repeated. Assumes nothing.
+-- Of numbers of which none is repeated, and one more: it equals an earlier one and is the first repeat, or it equals none. Assumes nothing.
 use Prim.Native.Nat.{ℕ, ◌+◌, ◌<◌}
 use native.Mathlib.Omega.{arith}
 use mathlib.Core.Bool.{false}

@@ -1,4 +1,5 @@
--- The keys of a track, asked one by one, where it is known which frame is the first to be repeated. Assumes nothing.
+-- As far as the first repeat, key m, a frame is among those before it exactly if its key is m (`repeated-not`, `repeated-is`): so a
+-- comparison of key numbers stands for the set of frames met. Assumes nothing.
 use Prim.Native.Nat.{ℕ, zero, suc, ◌<◌}
 use native.Mathlib.Omega.{arith}
 use mathlib.Core.Bool.{true, false}

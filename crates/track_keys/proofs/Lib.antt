@@ -6,6 +6,6 @@ pub mod ChainFrames
 pub mod Again
 pub mod Meets
 pub mod OneKey
-pub mod Readied
+pub mod KeysReady
 pub mod Asking
 pub mod Accepted

@@ -1,4 +1,5 @@
--- The chain of a track at the front of a list. Assumes nothing.
+-- The chain of a track at the front of a list, which grows by one position in its place each time (`listed-more`). It has no repeats, so it
+-- has no more records than there are (`chain-few`). Assumes nothing.
 use Prim.Native.Nat.{ℕ, ◌+◌, ◌<◌, ◌≤◌}
 use native.Mathlib.Omega.{arith}
 use native.Mathlib.Numerals.{add-one}

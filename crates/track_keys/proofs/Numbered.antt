@@ -1,4 +1,5 @@
--- A chain's positions taken one by one, each with its number. Assumes nothing.
+-- A chain's positions taken one by one, each with its number: behind n items comes number n, with the position that stands there in the
+-- chain (std's `YieldsList` of `enumerate`). Assumes nothing.
 use Prim.Native.Nat.{ℕ, ◌+◌, ◌<◌}
 use native.Mathlib.Omega.{arith}
 use mathlib.Core.List.{List}

@@ -1,15 +1,13 @@
--- What is asked of one key, from what its frame and its body meet. Assumes nothing.
+-- What a key meets is what its frame meets, or else what is asked of its body (`or` is associative). A morph key is answered as its value
+-- exactly if it meets nothing, so each tells the other. Assumes nothing.
 use Prim.Native.Nat.{ℕ}
 use mathlib.Core.Bool.{Bool}
-use mathlib.Core.List.{List, [], ◌∷◌}
+use mathlib.Core.List.{List}
 use mathlib.Core.Option.{Option, none, some}
 use mathlib.Core.Path.{◌≡◌, refl, sym, ap, ◌∙◌}
-use lib.IntN.{pos}
 use lib.Ieee.{Float}
-use Rattle.layout.specs.Numbers.{signed, negative}
 use Rattle.layout.specs.Walk.{Refusal, Answer, answered, declined}
-use Rattle.clip.specs.First.{given, ◌or◌}
-use Rattle.clip.specs.Fields.{refusal_of}
+use Rattle.clip.specs.First.{◌or◌}
 use Rattle.clip.specs.Keys.{body_refusal, float_at}
 use Rattle.clip.specs.Section.{morph_body}
 use Rattle.blocks.specs.Kind.{kind_of}
@@ -17,13 +15,15 @@ use Rattle.track_keys.specs.Keys.{asked_at, frame_meets, key_meets}
 use Rattle.track_keys.specs.MorphKeys.{or_refused, morph_key}
 use Rattle.blocks.specs.declared.kind.Kind.{Kind}
 
-or_assoc : (a b c : Option Refusal) → ((a or b) or c) ≡ (a or (b or c))
-or_assoc none b c = refl
-or_assoc (some x) b c = refl
+-- A frame is asked before the body.
+frame-first : (negative repeated body : Option Refusal) → (negative or repeated or body) ≡ ((negative or repeated or none) or body)
+frame-first none none body = refl
+frame-first none (some why) body = refl
+frame-first (some why) repeated body = refl
 
 module _ (s : List ℕ) (kind : Kind) (track frame body : ℕ) (repeated : Bool) where
   parts : key_meets s kind track frame body repeated ≡ (frame_meets (kind_of kind) track frame repeated or body_refusal (asked_at s kind body) track frame)
-  parts = sym (or_assoc (given (negative frame) (refusal_of (kind_of kind) 10 (pos track ∷ signed frame ∷ []))) (given repeated (refusal_of (kind_of kind) 11 (pos track ∷ signed frame ∷ []))) (body_refusal (asked_at s kind body) track frame))
+  parts = frame-first _ _ (body_refusal (asked_at s kind body) track frame)
 
   -- A frame that is refused.
   pub frame_refused : {why : Refusal} → some why ≡ frame_meets (kind_of kind) track frame repeated → some why ≡ key_meets s kind track frame body repeated

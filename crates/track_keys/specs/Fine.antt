@@ -1,14 +1,11 @@
--- Tracks whose keys meet nothing, none of their frames repeated. Definitions only.
-use Rattle.std.specs.Prelude.{ℕ, ◌<◌, false, List, ◌≡◌}
-use Rattle.std.specs.List.{All}
+-- Tracks whose keys meet nothing, none of their frames repeated.
+use Rattle.std.specs.{Prelude.{ℕ, ◌<◌, false, List, ◌≡◌}, List.{All}}
 use Rattle.std.proofs.Math.Option.{none}
-use Rattle.clip.specs.Keys.{Key}
-use Rattle.clip.specs.Build.{initial_key, record_key}
+use Rattle.clip.specs.{Keys.{Key}, Build.{initial_key, record_key}}
 use Rattle.blocks.specs.Block.{links}
 use Rattle.chains.specs.Chain.{chain_at}
 use Rattle.track_keys.specs.Keys.{key_meets}
-use Rattle.blocks.specs.declared.block.Block.{Block}
-use Rattle.blocks.specs.declared.kind.Kind.{Kind}
+use Rattle.blocks.specs.declared.{block.Block.{Block}, kind.Kind.{Kind}}
 
 abbrev pub KeyFine : List ℕ → Kind → ℕ → Key ℕ → Type 0
 KeyFine s kind track key = key_meets s kind track key.frame key.body false ≡ none

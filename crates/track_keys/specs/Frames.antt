@@ -1,7 +1,6 @@
--- The frames of a track's keys, and which of them are repeated. Definitions only.
+-- The frames of a track's keys, and which of them are repeated.
 use Rattle.std.specs.Prelude.{ℕ, ◌<◌, ◌≤◌, List}
-use Rattle.blocks.specs.Track.{number_of_track}
-use Rattle.blocks.specs.Block.{links}
+use Rattle.blocks.specs.{Track.{number_of_track}, Block.{links}}
 use Rattle.chains.specs.Chain.{chain_at}
 use Rattle.track_keys.specs.Tracks.{frames_of}
 use Rattle.blocks.specs.declared.block.Block.{Block}

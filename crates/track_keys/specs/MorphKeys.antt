@@ -1,9 +1,8 @@
--- Document 01: "A morph key is answered as its frame and weight, or as the refusal that it met." Definitions only.
+-- Document 01 (FORMAT, The build): "A morph key is answered as its frame and weight, or as the refusal that it met."
 use Rattle.std.specs.Prelude.{ℕ, Bool, List, Float}
 use Rattle.std.proofs.Math.Option.{Option, none, some}
 use Rattle.layout.specs.Walk.{Refusal, Answer, answered, declined}
-use Rattle.clip.specs.Keys.{float_at}
-use Rattle.clip.specs.Section.{morph_body}
+use Rattle.clip.specs.{Keys.{float_at}, Section.{morph_body}}
 use Rattle.blocks.specs.Fault.{fault_of}
 use Rattle.track_keys.specs.Keys.{key_meets}
 use Rattle.blocks.specs.declared.kind.Kind.{Kind}

@@ -1,14 +1,10 @@
--- What the keys of the tracks meet. Definitions only.
+-- What the keys of the tracks meet.
 use Rattle.std.specs.Prelude.{ℕ, zero, suc, List, [], ◌∷◌, ◌≡◌, get_or, take, drop}
 use Rattle.std.proofs.Math.Option.{Option}
 use Rattle.layout.specs.Walk.{Refusal, answered}
-use Rattle.clip.specs.Fields.{Records}
-use Rattle.clip.specs.First.{first}
-use Rattle.clip.specs.Chain.{chain}
-use Rattle.clip.specs.Keys.{KeyTest, key_test}
+use Rattle.clip.specs.{Fields.{Records}, First.{first_met}, Chain.{chain}, Keys.{KeyTest, key_test}}
 use Rattle.clip.specs.Build.{records_refusal, track_refusal}
-use Rattle.blocks.specs.Kind.{kind_of}
-use Rattle.blocks.specs.Block.{links}
+use Rattle.blocks.specs.{Kind.{kind_of}, Block.{links}}
 use Rattle.track_keys.specs.Keys.{asked_at}
 use Rattle.blocks.specs.declared.block.Block.{Block}
 
@@ -20,7 +16,7 @@ abbrev pub meets : List ℕ → Block → ℕ → Option Refusal
 meets s b track = track_refusal (kind_of b.kind) (test_at s b) (links s b) track
 
 abbrev pub tracks_meet : List ℕ → Block → ℕ → Option Refusal
-tracks_meet s b track = first track (meets s b)
+tracks_meet s b track = first_met track (meets s b)
 
 -- The chain of a track stands at the front of a list.
 abbrev pub Listed : List ℕ → Block → ℕ → ℕ → List ℕ → Type 0

@@ -48,7 +48,7 @@ fn met_again(chain: &Chain, list: &mut [u16]) -> usize
     let first = records.first_frame(chain.track);
     let block = records.block;
     let field = Field {
-        first: block.records.first + 4,
+        offset: block.records.offset + 4,
         ..block.records
     };
     let frames = Numbers {

@@ -5,7 +5,7 @@ ghost use Rattle.blocks.specs.Track.{number_of_track};
 ghost use Rattle.blocks.specs.Block.{TrackOf, links};
 ghost use Rattle.blocks.specs.Fault.{met_read};
 ghost use Rattle.track_keys.specs.Keys.{key_meets};
-ghost use Rattle.track_keys.specs.Ready.{Readies};
+ghost use Rattle.track_keys.specs.Ready.{KeysReady};
 
 use crate::{frames, key};
 use blocks::block::Records;
@@ -32,7 +32,7 @@ pub fn initial_key(records: &Records, track: TrackIndex) -> Result<(), Fault>
 pub fn make_ready(indexed: &Indexed, track: TrackIndex, list: &mut [u16]) -> Result<Keys, Fault>
     requires is_track { TrackOf indexed.now.records.block track }
     requires count_in_bounds { indexed.now.records.block.records.count ≤ length list.old }
-    ensures { Readies indexed.now.records.section.now indexed.now.records.block (number_of_track track) list.new result }
+    ensures { KeysReady indexed.now.records.section.now indexed.now.records.block (number_of_track track) list.new result }
 {
     let records = indexed.walk(track, list)?;
     let chain = Chain {

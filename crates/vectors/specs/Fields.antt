@@ -1,4 +1,4 @@
--- What is read from the bytes that are left of a part of a file. Definitions only.
+-- What is read from the bytes that are left of a part of a file.
 use Rattle.std.specs.Prelude.{ℕ, List, ◌-◌, ◌++◌, length, take, replicate}
 
 -- The first n bytes; those past the end are 0.

@@ -1,9 +1,7 @@
--- What a check adds to the counts. Definitions only.
+-- What a check adds to the counts.
 use Rattle.std.specs.Prelude.{ℕ, Bool, List, ◌+◌, min, nat_lt, length, slice_set, slice_index_or, if◌then◌else◌}
-use Rattle.vectors.specs.declared.tally.Row.{Row}
+use Rattle.vectors.specs.declared.tally.{Row.{Row}, Count.{Count}, Tally.{Tally}}
 use Rattle.vectors.specs.declared.tally.Row.TheVariants.{Returned, Bytes}
-use Rattle.vectors.specs.declared.tally.Count.{Count}
-use Rattle.vectors.specs.declared.tally.Tally.{Tally}
 
 -- A count stays where it is at the most that it can be.
 abbrev pub one_more : ℕ → ℕ

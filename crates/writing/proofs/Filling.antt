@@ -1,4 +1,5 @@
--- What is written of a chain, and of the tracks, after some turns of a loop. Assumes nothing.
+-- The keys of the records behind are written and end where the next one goes (`Fills`), and so for tracks (`Filled`). Room for all of them
+-- is room for those behind and one more, which is then written behind them (keys, Placing). Assumes nothing.
 use Prim.Native.Nat.{ℕ, ◌+◌, ◌≤◌, ◌<◌}
 use native.Mathlib.Omega.{arith}
 use mathlib.Core.List.{List, [], ◌∷◌, ◌++◌}

@@ -1,4 +1,5 @@
--- What is measured of a chain, and of the tracks, after some turns of a loop. Assumes nothing.
+-- The records behind and those ahead are the chain (`Passed`), and the keys of those behind have so many bytes (`Measures`): a turn puts
+-- one record behind. A chain has no more records than there are, so no sum overflows. Assumes nothing.
 use Prim.Native.Nat.{ℕ, ◌+◌, ◌≤◌, ◌<◌}
 use native.Mathlib.Omega.{arith}
 use mathlib.Core.List.{List, [], ◌∷◌, ◌++◌, append_assoc}

@@ -1,4 +1,5 @@
--- A key by its kind: its bytes are those that the crate `keys` writes, as long for every frame, and at most 49. Assumes nothing.
+-- A key by its kind, each kind by itself: its bytes are those that the crate `keys` writes, as long for every frame, and at most 49, 5 of
+-- frame and map and 44 of all groups. Assumes nothing.
 use Prim.Native.Nat.{ℕ, ◌+◌, ◌≤◌}
 use native.Mathlib.Omega.{arith}
 use mathlib.Core.Bool.{Bool, true, false, cond}

@@ -1,4 +1,5 @@
--- A track is written in three parts: the initial record's key, the keys of the chain's records, and before them the key count. Assumes nothing.
+-- A track is written in three parts: two places are left, the initial record's key and the chain's keys are written behind them, and then
+-- the key count into them; what is placed before what was placed joins it (keys, Placing). Assumes nothing.
 use Prim.Native.Nat.{ℕ, ◌+◌, ◌≤◌}
 use native.Mathlib.Omega.{arith}
 use mathlib.Core.List.{List, ◌++◌, append_assoc}

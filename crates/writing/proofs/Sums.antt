@@ -1,4 +1,5 @@
--- The bytes of several keys and of several tracks, one more each time, and how many they are at most. Assumes nothing.
+-- The bytes of records and of tracks, one more each time: those of some are no more than those of all, and with keys of at most 49 bytes
+-- and chains of at most 65,534 records a track has at most 4,000,000. Assumes nothing.
 use Prim.Native.Nat.{ℕ, zero, suc, ◌+◌, ◌*◌, ◌≤◌, ◌<◌}
 use native.Mathlib.Nat.{add-zero, zero-add}
 use native.Mathlib.Numerals.{add-one}

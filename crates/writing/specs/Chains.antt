@@ -1,9 +1,8 @@
--- The bytes of what a chain, or all chains, are of in a strip, and that its keys were accepted. Definitions only.
+-- The bytes of what a chain, or all chains, are of in a strip, and that its keys were accepted.
 use Rattle.std.specs.Prelude.{ℕ, List}
 use Rattle.blocks.specs.Track.{number_of_track}
 use Rattle.chains.specs.Positions.{records_of}
-use Rattle.chains.specs.declared.chain.Chain.{Chain}
-use Rattle.chains.specs.declared.chain.Chains.{Chains}
+use Rattle.chains.specs.declared.chain.{Chain.{Chain}, Chains.{Chains}}
 use Rattle.track_keys.specs.Fine.{KeysFine, AllFine}
 use Rattle.writing.specs.Tracks.{records_bytes, strip_track, strip_tracks}
 

@@ -1,10 +1,9 @@
--- A key whose record is known by its frame and where its body stands: its bytes, and that it meets nothing. Definitions only.
+-- A key whose record is known by its frame and where its body stands: its bytes, and that it meets nothing.
 use Rattle.std.specs.Prelude.{ℕ, List, ◌≡◌}
 use Rattle.clip.specs.Keys as clip
 use Rattle.blocks.specs.Track.{kind_of_track, number_of_track}
 use Rattle.track_keys.specs.Fine.{KeyFine}
-use Rattle.blocks.specs.declared.key.Key.{Key}
-use Rattle.blocks.specs.declared.track.TrackIndex.{TrackIndex}
+use Rattle.blocks.specs.declared.{key.Key.{Key}, track.TrackIndex.{TrackIndex}}
 use Rattle.writing.specs.Tracks.{key_at}
 
 abbrev pub key_of : Key → clip.Key ℕ

@@ -1,15 +1,10 @@
--- Document 01, "The strip": the tracks of one kind in a strip, where a body is known by its offset in the section. Definitions only.
+-- Document 01, "The strip" (FORMAT, The strip): the tracks of one kind in a strip, where a body is known by its offset in the section.
 use Rattle.std.specs.Prelude.{ℕ, List, map}
-use Rattle.clip.specs.Keys.{Key}
-use Rattle.clip.specs.Build.{initial_key, record_key, keys}
-use Rattle.clip.specs.Section.{bone_body, morph_body}
-use Rattle.strip.specs.Plain.{Group, bone_groups, bone_fields, morph_groups, morph_fields}
-use Rattle.strip.specs.Keys.{key_bytes}
+use Rattle.clip.specs.{Keys.{Key}, Build.{initial_key, record_key, keys}, Section.{bone_body, morph_body}}
+use Rattle.strip.specs.{Plain.{Group, bone_groups, bone_fields, morph_groups, morph_fields}, Keys.{key_bytes}}
 use Rattle.strip.specs.Strip.{count_width, keys_bytes, track_bytes, tracks_bytes}
-use Rattle.blocks.specs.Kind.{kind_of}
-use Rattle.blocks.specs.Block.{links}
-use Rattle.blocks.specs.declared.block.Block.{Block}
-use Rattle.blocks.specs.declared.kind.Kind.{Kind}
+use Rattle.blocks.specs.{Kind.{kind_of}, Block.{links}}
+use Rattle.blocks.specs.declared.{block.Block.{Block}, kind.Kind.{Kind}}
 
 abbrev pub groups_of : Kind → List Group
 groups_of Kind.Bone = bone_groups

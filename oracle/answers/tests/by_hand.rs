@@ -125,6 +125,12 @@ fn the_bits_of_a_nan_are_kept() {
     let read = model::model(&model::summary(&section, 0).expect("read"));
     let scalars = &read.initial_bone_keyframe_summaries[0].scalars;
     assert!(scalars.contains(&("orientation", u64::from(bits))));
+    for bits in [0x7fc0_0001_u32, bits] {
+        let mut section = [0; 340];
+        section[334..338].copy_from_slice(&bits.to_le_bytes());
+        let read = model::model(&model::summary(&section, 0).expect("read"));
+        assert_eq!(offset(&read.scalars, "edge_width"), u64::from(bits));
+    }
 }
 
 #[test]

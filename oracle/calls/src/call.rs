@@ -1,5 +1,7 @@
 //! The calls of the static library `exports`, in the order of the numbers that replayed vectors give them.
 
+use std::ops::Range;
+
 macro_rules! calls {
     ($($call:ident $name:literal $form:ident),* $(,)?) => {
         #[derive(Debug, Clone, Copy, PartialEq, Eq, PartialOrd, Ord, Hash)]
@@ -86,6 +88,19 @@ impl Call {
 
     pub fn of_light(self) -> bool {
         matches!(self, Self::LightSummary | Self::LightKeyframe | Self::LightPayload)
+    }
+
+    /// Which of the numbers it answers are the bits of floats.
+    pub fn floats(self) -> Range<usize> {
+        match self {
+            Self::ModelSummary => 25..26,
+            Self::BoneKeyframe | Self::CameraKeyframe => 4..11,
+            Self::MorphKeyframe => 4..5,
+            Self::LightKeyframe => 4..10,
+            Self::BoneState => 0..7,
+            Self::MorphState => 0..1,
+            _ => 0..0,
+        }
     }
 }
 

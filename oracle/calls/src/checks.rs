@@ -20,6 +20,16 @@ pub enum Answer {
     Bytes(Vec<u8>),
 }
 
+impl Check {
+    /// The bits of the floats among the numbers that it answers.
+    pub fn floats(&self) -> &[u64] {
+        match &self.answer {
+            Answer::Numbers(0, numbers) => &numbers[self.call.floats()],
+            _ => &[],
+        }
+    }
+}
+
 /// What is known of a section: the Rust's summary with the places of its texts, or the refusal.
 pub enum Read<'a> {
     Model(&'a Model, &'a [Span]),

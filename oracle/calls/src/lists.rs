@@ -14,19 +14,9 @@ pub struct Lists<'a, S, H> {
     pub turn: usize,
 }
 
-/// The fields that are f32: a NaN among them is answered as this one.
-const FLOATS: [&str; 9] =
-    ["translation", "orientation", "weight", "edge_width", "distance", "look_at", "angle", "color", "direction"];
-const NAN: u64 = 0x7fc0_0000;
-
-fn number(name: &str, value: u64) -> u64 {
-    let nan = FLOATS.contains(&name) && f32::from_bits(value as u32).is_nan();
-    if nan { NAN } else { value }
-}
-
-/// All numbers of a record but its interpolation, which a call of its own answers.
+/// All numbers of a record but its interpolation, which a call of its own answers. Floats are the section's own bits.
 fn numbers(flat: &Flat) -> Vec<u64> {
-    flat.iter().filter(|(name, _)| *name != "interpolation").map(|(name, value)| number(name, *value)).collect()
+    flat.iter().filter(|(name, _)| *name != "interpolation").map(|(_, value)| *value).collect()
 }
 
 fn interpolation(flat: &Flat) -> Vec<u8> {

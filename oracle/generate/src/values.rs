@@ -37,8 +37,11 @@ pub fn finite(prng: &Prng) -> u32 {
     if f32::from_bits(bits).is_finite() { bits } else { bits & 0x807f_ffff | ONE }
 }
 
+/// One in 64 has any sign and payload, which come from the same draw.
 pub fn not_finite(prng: &Prng) -> u32 {
-    prng.pick(&NOT_FINITE)
+    let drawn = prng.next();
+    let any = 0x7f80_0000 | (drawn >> 16) as u32;
+    if drawn >> 58 == 0 { any } else { NOT_FINITE[(drawn % NOT_FINITE.len() as u64) as usize] }
 }
 
 pub fn float(prng: &Prng) -> u32 {

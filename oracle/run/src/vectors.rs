@@ -140,8 +140,8 @@ fn told(vectors: &[Vector], length: usize) -> String {
             .expect("a string");
     }
     let starts = vectors.iter().filter(|vector| vector.start > 0).count();
-    let nan = |check: &&Check| matches!(&check.answer, Answer::Numbers(0, numbers) if numbers.contains(&0x7fc0_0000));
-    let nans = checks().filter(nan).count();
+    let has_nan = |check: &&Check| check.floats().iter().any(|bits| f32::from_bits(*bits as u32).is_nan());
+    let nans = checks().filter(has_nan).count();
     writeln!(out, "{starts} sections with a start, {nans} checks with a NaN, {length} bytes").expect("a string");
     out
 }

@@ -1,6 +1,7 @@
 //! The comparison itself: the Rust agrees with itself, and each sort of change is noticed.
 
 use std::collections::HashMap;
+use std::ops::Range;
 
 use answers::{Refusal, Strip};
 use calls::strip::left;
@@ -107,6 +108,23 @@ fn changes_are_noticed() {
     assert!(differences(&Change { status: absent, ..SAME }) > 1000);
     let short = |_: Call, status: u32| if status == 1 { 2 } else { status };
     assert!(differences(&Change { status: short, ..SAME }) > 100);
+}
+
+/// A NaN answered as the plain one, made quiet, or without its sign.
+#[test]
+fn changes_of_nans_are_noticed() {
+    let plain = |call: Call, values: &mut [u64]| change_nans(call, values, |_| 0x7fc0_0000);
+    assert!(differences(&Change { numbers: plain, ..SAME }) > 100);
+    let quiet = |call: Call, values: &mut [u64]| change_nans(call, values, |bits| bits | 0x0040_0000);
+    assert!(differences(&Change { numbers: quiet, ..SAME }) > 100);
+    let positive = |call: Call, values: &mut [u64]| change_nans(call, values, |bits| bits & 0x7fff_ffff);
+    assert!(differences(&Change { numbers: positive, ..SAME }) > 100);
+}
+
+fn change_nans(call: Call, values: &mut [u64], change: fn(u64) -> u64) {
+    let Range { start, end } = call.floats();
+    let floats = values.iter_mut().take(end).skip(start);
+    floats.filter(|bits| f32::from_bits(**bits as u32).is_nan()).for_each(|bits| *bits = change(*bits));
 }
 
 #[test]

@@ -3,8 +3,8 @@
 //! document 01.
 //!
 //! A section is lent as the bytes that hold it and the offset `start` at which it begins; all offsets count from the start
-//! of these bytes. Records, states and names are asked for by number, from 0. Every call reads the section again and
-//! keeps nothing.
+//! of these bytes. Records, states and names are asked for by number, from 0. A float has the section's own bits, also if
+//! it is a NaN. Every call reads the section again and keeps nothing.
 //!
 //! ```
 //! let strip = limdroven::strip(&[0; 340], 0)?;

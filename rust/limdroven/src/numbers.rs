@@ -27,6 +27,7 @@ single! {
     usize: number => number as usize;
     u8: number => number as u8;
     i32: number => number as u32 as i32;
+    // The section's own bits, those of a signalling NaN too: nothing is worked out with it.
     f32: number => f32::from_bits(number as u32);
     bool: number => number != 0;
     // An initial record has no index.
@@ -104,6 +105,13 @@ pub fn handed(length: usize, call: impl FnOnce(&mut [u8]) -> usize) -> Vec<u8> {
 mod tests {
     use super::Numbers;
     use crate::*;
+
+    #[test]
+    fn bits_of_nans() {
+        for bits in [0x7fc0_0000, 0x7fc0_0001, 0x7f80_0001, 0xff80_0001, 0xffff_ffff] {
+            assert_eq!(f32::read(&mut [u64::from(bits)].into_iter()).to_bits(), bits);
+        }
+    }
 
     /// As the headers count them.
     #[test]

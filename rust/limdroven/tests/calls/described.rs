@@ -2,11 +2,6 @@
 
 use generate::section::{Payload, Record, Tracks};
 
-/// A float as the library answers it: every NaN is one NaN.
-pub fn answered(bits: u32) -> u32 {
-    if f32::from_bits(bits).is_nan() { 0x7fc0_0000 } else { bits }
-}
-
 pub fn bits<const N: usize>(floats: [f32; N]) -> [u32; N] {
     floats.map(f32::to_bits)
 }
@@ -16,7 +11,7 @@ pub fn i32_at(bytes: &[u8], at: usize) -> i32 {
 }
 
 pub fn floats_at<const N: usize>(bytes: &[u8], at: usize) -> [u32; N] {
-    std::array::from_fn(|n| answered(i32_at(bytes, at + 4 * n) as u32))
+    std::array::from_fn(|n| i32_at(bytes, at + 4 * n).cast_unsigned())
 }
 
 pub fn written(payload: &impl Payload) -> Vec<u8> {

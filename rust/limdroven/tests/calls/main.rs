@@ -4,6 +4,7 @@ mod by_hand;
 mod described;
 mod edges;
 mod models;
+mod nans;
 mod records;
 mod refusals;
 mod sections;

@@ -3,14 +3,14 @@
 use generate::section::{Bone, Model, Morph, Record};
 use limdroven::*;
 
-use crate::described::{answered, assert_base, bits, i32_at, written};
+use crate::described::{assert_base, bits, i32_at, written};
 
 pub fn assert_bone(section: &[u8], start: usize, include_index: bool, number: usize, record: &Record<Bone>) {
     let found = bone_keyframe(section, start, include_index, number).expect("a record");
     let payload = written(&record.payload);
     assert_base!(found, record, include_index, section, payload);
-    assert_eq!(bits(found.translation), record.payload.translation.map(answered));
-    assert_eq!(bits(found.orientation), record.payload.orientation.map(answered));
+    assert_eq!(bits(found.translation), record.payload.translation);
+    assert_eq!(bits(found.orientation), record.payload.orientation);
     assert_eq!([found.physics_disabled, found.selected], record.payload.flags.map(|flag| flag != 0));
     assert_eq!(bone_payload(section, start, include_index, number), Ok(payload));
     let curves = bone_interpolation(section, start, include_index, number).expect("a record");
@@ -21,7 +21,7 @@ pub fn assert_morph(section: &[u8], start: usize, include_index: bool, number: u
     let found = morph_keyframe(section, start, include_index, number).expect("a record");
     let payload = written(&record.payload);
     assert_base!(found, record, include_index, section, payload);
-    assert_eq!(found.weight.to_bits(), answered(record.payload.weight));
+    assert_eq!(found.weight.to_bits(), record.payload.weight);
     assert_eq!(found.selected, record.payload.selected != 0);
     assert_eq!(morph_payload(section, start, include_index, number), Ok(payload));
 }

@@ -1,3 +1,4 @@
+-- The first item and the runs passed are whole and end at `at`; the place is sought in the others.
 use Rattle.binary.proofs.Passing.{Whole}
 use Rattle.binary.proofs.blocks.place_in_record.Given as goal
 

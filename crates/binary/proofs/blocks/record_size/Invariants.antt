@@ -1,3 +1,4 @@
+-- The first item and the runs passed come to `size`.
 use Rattle.binary.proofs.Passing.{Sized}
 use Rattle.binary.proofs.blocks.record_size.Given as goal
 

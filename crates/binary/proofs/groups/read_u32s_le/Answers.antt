@@ -1,5 +1,4 @@
--- `read_u32s_le` meets its contract: what is left to read from the position reached comes to the same as all from the first one.
--- Assumes nothing.
+-- What is left to read from the position reached comes to the same as all from the first one. Assumes nothing.
 use Rattle.binary.proofs.NumbersRead.{passed-more}
 use Rattle.binary.proofs.groups.read_u32s_le.Goals as goal
 

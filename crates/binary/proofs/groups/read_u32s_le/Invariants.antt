@@ -1,3 +1,4 @@
+-- The first `i` numbers stand in `values`, and the others are read from `next` on.
 use Rattle.binary.proofs.NumbersRead.{Passed}
 use Rattle.binary.proofs.groups.read_u32s_le.Given as goal
 

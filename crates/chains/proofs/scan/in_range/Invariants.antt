@@ -1,3 +1,4 @@
+-- The records below `p` are in range.
 use Rattle.chains.proofs.Scanned.{Ranging}
 use Rattle.chains.proofs.scan.in_range.Given as goal
 

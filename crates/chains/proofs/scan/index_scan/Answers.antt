@@ -1,4 +1,4 @@
--- `index_scan` meets its contract. Assumes nothing.
+-- Where the indices rise, the scan meets nothing and file order is the order of indices (RisingIndices). Assumes nothing.
 use Prim.Native.Nat.{ℕ}
 use mathlib.Core.List.{List}
 use mathlib.Core.Path.{sym, ap, ◌∙◌, subst}

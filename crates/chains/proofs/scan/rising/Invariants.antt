@@ -1,3 +1,4 @@
+-- The indices of the records below `p` rise from the kind's count on, and are below `least`.
 use Rattle.chains.proofs.RisingIndices.{Rising}
 use Rattle.chains.proofs.scan.rising.Given as goal
 

@@ -1,4 +1,4 @@
--- `listed` meets its contract. Assumes nothing.
+-- std's `any` over the list tests each position as `member` does, with the two sides of the equation exchanged. Assumes nothing.
 use Rattle.std.proofs.Common.{◌∙◌, rules}
 use borrow.Author.Tests.{tests}
 use Rattle.std.proofs.lemmas.Iterator.{YieldsList-from_slice}

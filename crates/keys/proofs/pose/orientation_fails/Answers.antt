@@ -1,4 +1,4 @@
--- `orientation_fails` meets its contract: the bits of the limit are those of 2^-23. Assumes nothing.
+-- The bits of the limit are those of 2^-23. Assumes nothing.
 use Rattle.clip.specs.Keys.{orientation_fails}
 use lib.Ieee.{of_bits}
 use Rattle.keys.proofs.pose.orientation_fails.Goals as goal

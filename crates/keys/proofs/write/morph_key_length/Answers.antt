@@ -1,4 +1,4 @@
--- `morph_key_length` meets its contract: the weight is plain by its value. Assumes nothing.
+-- The weight is plain by its value. Assumes nothing.
 use Rattle.std.proofs.Common.{rules}
 use Rattle.strip.proofs.Bytes.{length-little_endian}
 use Rattle.keys.proofs.Lengths.{morph-length-is}

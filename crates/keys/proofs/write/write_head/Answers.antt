@@ -1,4 +1,4 @@
--- `write_head` meets its contract: the map byte is written behind the frame. Assumes nothing.
+-- The map byte is written behind the frame. Assumes nothing.
 use Rattle.keys.proofs.Placing.{room_back, wrote_then}
 use Rattle.keys.proofs.Stores.{number-put, head-room}
 use native.Mathlib.Omega.{arith}

@@ -1,4 +1,4 @@
--- `write_morph_key` meets its contract: the key is its head and its weight, which is plain by its value. Assumes nothing.
+-- The key is its head and its weight, which is plain by its value. Assumes nothing.
 use Rattle.std.proofs.Common.{rules, ◌∙◌}
 use Rattle.keys.proofs.Lengths.{morph-parts, morph-room}
 use Rattle.keys.proofs.Placing.{room-front, room_back, wrote_then}

@@ -1,4 +1,4 @@
--- `count` meets its contract. Assumes nothing.
+-- A mark of 0 is that of a record that no chain holds (Marking), so a turn counts just such a record, by its two links. Assumes nothing.
 use native.Mathlib.Omega.{arith}
 use Rattle.std.proofs.Common.{ℕ, List, length, get_or, sym, ap, ◌∙◌}
 use Rattle.strip.specs.Work.{track_mark}

@@ -1,3 +1,4 @@
+-- Of the first `p` records so many are disconnected and so many loose.
 use Rattle.blocks.specs.Kind.{kind_of}
 use Rattle.blocks.specs.Block.{links}
 use Rattle.marks.proofs.Unreached.{Counted}

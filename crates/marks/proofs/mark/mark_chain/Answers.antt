@@ -1,4 +1,4 @@
--- `mark_chain` meets its contract. Assumes nothing.
+-- In each turn the next record of the chain is marked: it is one of the kind's, so the slice has its place. Assumes nothing.
 use native.Mathlib.Omega.{arith}
 use Rattle.std.proofs.Common.{rules}
 use Rattle.track_keys.proofs.ListedChain.{chain-few}

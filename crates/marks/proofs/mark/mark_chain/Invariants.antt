@@ -1,3 +1,4 @@
+-- `n` records are marked; marking those that are left of the chain gives what marking all of it gives.
 use Rattle.blocks.specs.Track.{number_of_track}
 use Rattle.chains.specs.Positions.{positions_left}
 use Rattle.marks.proofs.Following.{Following}

@@ -1,4 +1,4 @@
--- `mark_tracks` meets its contract. Assumes nothing.
+-- In each turn the chain of one track more is marked; so many links as 65,535 chains have are counted without overflow. Assumes nothing.
 use native.Mathlib.Omega.{arith}
 use Rattle.std.proofs.Common.{ap, ◌+◌, ℕ}
 use Rattle.marks.proofs.Passing.{no-track, all-tracks, few-followed, one-track}

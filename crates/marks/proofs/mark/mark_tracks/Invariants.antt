@@ -1,3 +1,4 @@
+-- The tracks below `number` are marked, and `reached` is how many records their chains have together.
 use Rattle.marks.proofs.Passing.{Passing}
 use Rattle.marks.proofs.mark.mark_tracks.Given as goal
 

@@ -1,4 +1,5 @@
--- `mark_tracks` meets its contract. Assumes nothing.
+-- A turn of the inner loop is one step along the chain, to a record that stands rightly behind; link 0 leaves a track that meets nothing,
+-- which the outer loop's invariant takes in. Where anything else is found `rising` is false, and nothing is promised. Assumes nothing.
 use native.Mathlib.Omega.{arith}
 use Rattle.std.proofs.Common.{rules, ap, sym, ℕ, ◌+◌}
 use Rattle.clip.proofs.First.{contrary}

@@ -1,3 +1,5 @@
+-- Outer loop: the tracks below `number` meet nothing and are marked. Inner loop: the track's records so far are linked from the initial one
+-- on to `link`, their frames rise to `frame`, their keys meet nothing, and they are marked; they are no more than all records.
 use Prim.Native.Nat.{◌+◌, ◌-◌}
 use Rattle.blocks.specs.Track.{number_of_track}
 use Rattle.marks.proofs.RisingChains.{Tracking, Seeing}

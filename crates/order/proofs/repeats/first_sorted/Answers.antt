@@ -1,4 +1,4 @@
--- `first_sorted` meets its contract: what the pass over sorted neighbours finds is the first repeat in file order. Assumes nothing.
+-- What the pass over sorted neighbours finds is the first repeat in file order. Assumes nothing.
 use Rattle.order.proofs.Laws.{sorted-below}
 use Rattle.order.proofs.FirstOfAll.{filled-below, first-repeat}
 use Rattle.order.proofs.repeats.first_sorted.Goals as goal

@@ -1,4 +1,4 @@
--- `repeats` meets its contract: a slot has the given number, or equal numbers stand side by side. Assumes nothing.
+-- A slot has the given number, or equal numbers stand side by side. Assumes nothing.
 use Rattle.order.proofs.Laws.{sorted-below, sorted-numbers}
 use Rattle.order.proofs.repeats.repeats.Goals as goal
 

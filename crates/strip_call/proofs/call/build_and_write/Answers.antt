@@ -1,4 +1,5 @@
--- `build_and_write` meets its contract. Assumes nothing.
+-- A build that was accepted meets nothing, so no key does, and the clip may be written; then the slices and the answer are the definition's
+-- (Ended). Assumes nothing.
 use Rattle.strip_call.proofs.Built.{build-fine}
 use Rattle.strip_call.proofs.Ended.{written-says}
 use Rattle.strip_call.proofs.call.build_and_write.Goals as goal
@@ -14,4 +15,4 @@ invariant_of-clip-5 c =
     }
 
 pub returns : goal.returns
-returns c = written-says c.args.records.now.bones.section.now c.args.records.now.bones.block c.args.records.now.morphs.block c.build_clip.ensures.first_outside c.build_clip.ensures.second_outside c.in_ok-counted.ensures.builds c.requires.first_long_enough c.requires.second_long_enough c.in_default.ensures c.write-length.ensures
+returns c = written-says c.args.records.now.bones.section.now c.args.records.now.bones.block c.args.records.now.morphs.block c.build_clip.ensures.first_outside c.build_clip.ensures.second_outside c.in_ok-counted.ensures.builds c.requires.first_long_enough c.requires.second_long_enough c.in_default.ensures c.write-strip_length.ensures

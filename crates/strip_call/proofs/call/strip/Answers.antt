@@ -1,4 +1,4 @@
--- `strip` meets its contract. Assumes nothing.
+-- The definition goes on with the model that was read, as the call does. Assumes nothing.
 use Rattle.strip_call.proofs.Called.{read-says}
 use Rattle.strip_call.proofs.call.strip.Goals as goal
 

@@ -1,4 +1,5 @@
--- `strip_model` meets its contract. Assumes nothing.
+-- The blocks of a section that was read stand in its bytes, and its strip, where the build meets nothing, is no longer than the section;
+-- where the slices are long enough, the definition is what the blocks give (Called). Assumes nothing.
 use native.Mathlib.Omega.{arith}
 use mathlib.Core.Path.{refl}
 use Rattle.strip_call.proofs.Called.{bones-within, morphs-within, no_longer-here, long-enough}

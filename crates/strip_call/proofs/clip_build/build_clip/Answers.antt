@@ -1,4 +1,4 @@
--- `build_clip` meets its contract. Assumes nothing.
+-- Reached and loose of both kinds are at most 131,068 together, so their sums do not overflow (Clipped). Assumes nothing.
 use native.Mathlib.Omega.{arith}
 use Rattle.strip_call.proofs.Clipped.{few-reached, few-loose}
 use Rattle.strip_call.proofs.clip_build.build_clip.Goals as goal

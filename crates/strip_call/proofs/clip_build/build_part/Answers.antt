@@ -1,4 +1,4 @@
--- `build_part` meets its contract. Assumes nothing.
+-- The part of each slice is built and put back: it holds what the build left, and nothing outside it changed (PartLaws). Assumes nothing.
 use Rattle.strip_call.proofs.PartLaws.{put-back}
 use Rattle.strip_call.proofs.clip_build.build_part.Goals as goal
 

@@ -1,4 +1,4 @@
--- `list_again` meets its contract: each record of the chain is put in its place. Assumes nothing.
+-- Each record of the chain is put in its place. Assumes nothing.
 use native.Mathlib.Omega.{arith}
 use Rattle.std.proofs.Common.{◌<◌, ◌∙◌, length}
 use Rattle.std.proofs.lemmas.List.{length_push}

@@ -1,3 +1,4 @@
+-- The positions passed, which are the front of the chain, stand at the front of the list.
 use Rattle.std.proofs.Common.{◌≡◌, length, take}
 use Rattle.chains.specs.Chain.{chain_at}
 use Rattle.blocks.specs.Track.{number_of_track}

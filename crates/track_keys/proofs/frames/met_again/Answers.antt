@@ -1,4 +1,5 @@
--- `met_again` meets its contract: the frames of the keys passed are different, and marked in the list. Assumes nothing.
+-- If the sorted list tells of no repeat, there is none. Else each frame along the chain is the first repeat, if it is the initial record's
+-- or marked already, or it is marked now and the frames so far stay different (Again). Assumes nothing.
 use native.Mathlib.Omega.{arith}
 use Rattle.std.proofs.Common.{◌<◌, ◌∙◌, ap, sym, length}
 use Rattle.std.proofs.lemmas.List.{length_push}
@@ -11,7 +12,7 @@ pub repeats-requires : goal.repeats-requires
 repeats-requires c = record { all_below = held_below _ _ _ c.requires c.args.chain.now.ends; by_index = held-once _ _ _ c.requires c.args.chain.now.ends }
 
 pub returns-then-not-repeats : goal.returns-then-not-repeats
-returns-then-not-repeats c = rw c.repeats.ensures.sorted.length (held-apart _ _ _ c.requires c.first_frame-first.ensures c.repeats.result c.repeats.ensures.repeats c.if-not-repeats.true)
+returns-then-not-repeats c = rw c.repeats.ensures.sorted.as_many (held-apart _ _ _ c.requires c.first_frame-first.ensures c.repeats.result c.repeats.ensures.repeats c.if-not-repeats.true)
 
 pub loop-i-init : goal.loop-i-init
 loop-i-init c = again-starts c.args.chain.now.ends c.requires c.repeats.ensures.sorted

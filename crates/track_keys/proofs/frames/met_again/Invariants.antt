@@ -1,3 +1,4 @@
+-- The frames of the keys passed, with the initial record's, are different, and those of the records passed are marked in the sorted list.
 use lib.ListN.{length}
 use Rattle.blocks.specs.Track.{number_of_track}
 use Rattle.track_keys.proofs.Again.{Again}

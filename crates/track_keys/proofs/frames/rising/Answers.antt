@@ -1,4 +1,4 @@
--- `rising` meets its contract: the frames of the keys passed rise. Assumes nothing.
+-- The list holds the chain, so each position in it is a record's. Assumes nothing.
 use Rattle.track_keys.proofs.ChainFrames.{held_below}
 use Rattle.track_keys.proofs.frames.rising.Goals as goal
 

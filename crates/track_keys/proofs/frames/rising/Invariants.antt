@@ -1,3 +1,4 @@
+-- `last` is the frame of key `i`, and the frames of keys 0 to `i` rise.
 use lib.ListN.{length}
 use mathlib.Core.Path.{◌≡◌}
 use Rattle.blocks.specs.Track.{number_of_track}

@@ -1,4 +1,4 @@
--- `key` meets its contract. Assumes nothing.
+-- A morph key is answered as its value exactly if it meets nothing (OneKey); so its two cases are those of what is met. Assumes nothing.
 use Rattle.std.proofs.Common.{sym}
 use Rattle.track_keys.proofs.OneKey.{key-fine, key-refused}
 use Rattle.track_keys.proofs.key.key.Goals as goal

@@ -1,4 +1,5 @@
--- `all_tracks` meets its contract. Assumes nothing.
+-- The first refusal leaves both loops: the tracks before met nothing, nor did the track's keys before, so it is what the tracks meet. A
+-- loop that ends without one leaves a track that meets nothing. Assumes nothing.
 use native.Mathlib.Omega.{arith}
 use Rattle.std.proofs.Common.{◌∙◌}
 use Rattle.blocks.specs.Track.{number_of_track}

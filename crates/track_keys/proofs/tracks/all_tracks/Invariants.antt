@@ -1,3 +1,4 @@
+-- Outer loop: the tracks below `number` meet nothing. Inner loop: what the track meets is what its records from `i` on meet.
 use Rattle.blocks.specs.Track.{number_of_track}
 use Rattle.track_keys.proofs.Asking.{Tracking, Asking}
 use Rattle.track_keys.proofs.tracks.all_tracks.Given as goal

@@ -1,4 +1,4 @@
--- `measure` meets its contract: in each turn the next record of the chain is counted. Assumes nothing.
+-- In each turn the next record of the chain is counted. Assumes nothing.
 use lib.ListN.{length}
 use mathlib.Core.Path.{ap, ◌∙◌}
 use mathlib.Core.List.{List}

@@ -1,4 +1,4 @@
--- `write_records` meets its contract: in each turn the key of the next record of the chain is written. Assumes nothing.
+-- In each turn the key of the next record of the chain is written. Assumes nothing.
 use native.Mathlib.Omega.{arith}
 use mathlib.Core.Path.{ap, ◌∙◌}
 use Rattle.chains.specs.Positions.{positions_left}

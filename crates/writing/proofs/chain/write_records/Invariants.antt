@@ -1,3 +1,4 @@
+-- The keys of the records passed are written and end at `written.end`; the others of the chain are ahead.
 use Rattle.blocks.specs.Track.{number_of_track}
 use Rattle.chains.specs.Positions.{positions_left}
 use Rattle.writing.proofs.Filling.{Fills}

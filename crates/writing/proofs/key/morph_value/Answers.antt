@@ -1,4 +1,4 @@
--- `morph_value` meets its contract: the key is not refused, and its weight has the record's bytes. Assumes nothing.
+-- The key is not refused, and its weight has the record's bytes. Assumes nothing.
 use Rattle.std.proofs.Common.{ap, ◌∙◌}
 use Rattle.keys.specs.Placed.{morph_key_bytes}
 use Rattle.keys.proofs.Weights.{finite-number, record-key}

@@ -1,4 +1,4 @@
--- `track_length` meets its contract. Assumes nothing.
+-- A key has at most 49 bytes and a chain at most 65,534 records, so the sum of the three parts does not overflow. Assumes nothing.
 use native.Mathlib.Omega.{arith}
 use Rattle.writing.proofs.OfKind.{key-most}
 use Rattle.writing.proofs.Measuring.{chain-most}

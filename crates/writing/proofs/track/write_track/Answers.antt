@@ -1,4 +1,4 @@
--- `write_track` meets its contract: initial key and the keys of the chain are written behind the room of the count, then the count. Assumes nothing.
+-- The initial record's key and the chain's keys are written behind two places, and then the key count into them. Assumes nothing.
 use native.Mathlib.Omega.{arith}
 use Rattle.writing.proofs.OfRecord.{bytes-read}
 use Rattle.writing.proofs.Measuring.{chain-most}

@@ -1,4 +1,4 @@
--- `tracks_length` meets its contract: in each turn one track more is measured. Assumes nothing.
+-- In each turn one track more is measured. Assumes nothing.
 use native.Mathlib.Omega.{arith}
 use Rattle.writing.proofs.Measuring.{tracks-fit, track-fits}
 use Rattle.writing.proofs.tracks.tracks_length.Goals as goal

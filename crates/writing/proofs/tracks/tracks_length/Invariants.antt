@@ -1,3 +1,4 @@
+-- The tracks below `number` have `bytes` bytes.
 use Rattle.writing.specs.Tracks.{first_tracks}
 use mathlib.Core.Path.{◌≡◌}
 use lib.ListN.{length}

@@ -1,4 +1,4 @@
--- `write_tracks` meets its contract: in each turn one track more is written. Assumes nothing.
+-- In each turn one track more is written. Assumes nothing.
 use Rattle.writing.proofs.Filling.{tracks-none, tracks-room, tracks-more}
 use Rattle.writing.proofs.tracks.write_tracks.Goals as goal
 

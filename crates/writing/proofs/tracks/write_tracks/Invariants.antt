@@ -1,3 +1,4 @@
+-- The tracks below `number` are written, and end at `end`.
 use Rattle.writing.proofs.Filling.{Filled}
 use Rattle.writing.proofs.tracks.write_tracks.Given as goal
 

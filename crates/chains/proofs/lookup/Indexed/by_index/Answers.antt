@@ -1,4 +1,4 @@
--- `by_index` meets its contract. Assumes nothing.
+-- Slots by rising index have numbers that do not fall, as the search asks. Assumes nothing.
 use Rattle.chains.proofs.ByIndex.{slots-rise}
 use Rattle.chains.proofs.lookup.Indexed.by_index.Goals as goal
 

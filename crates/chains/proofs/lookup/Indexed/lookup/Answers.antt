@@ -1,4 +1,4 @@
--- `lookup` meets its contract. Assumes nothing.
+-- If the record at the guessed place bears the link, it is the one that a search would find, since no other bears it. Assumes nothing.
 use Rattle.std.proofs.Common.{sym, ◌∙◌}
 use Rattle.clip.proofs.Indexed.{of-record}
 use Rattle.chains.proofs.ByIndex.{slots-below}

@@ -1,4 +1,4 @@
--- `step` meets its contract. Assumes nothing.
+-- The record of a link is one of the kind's, so its next link can be read. Assumes nothing.
 use Rattle.std.proofs.Common.{sym}
 use Rattle.clip.proofs.Indexed.{record_of-found}
 use Rattle.chains.proofs.lookup.Indexed.step.Goals as goal

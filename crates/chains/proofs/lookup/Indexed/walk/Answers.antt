@@ -1,22 +1,23 @@
--- `walk` meets its contract. Assumes nothing.
+-- In each turn the record that the link leads to is put behind the others in the list (Going); a record whose previous link is the one
+-- expected is a new one, so there is room. Link 0 and 6, 7 and 8 end the walk as they end the chain. Assumes nothing.
 use native.Mathlib.Omega.{arith}
 use Rattle.std.proofs.Common.{sym, ◌∙◌}
-use Rattle.blocks.proofs.Told.{told}
+use Rattle.blocks.proofs.CastSigned.{cast_signed-is}
 use Rattle.chains.proofs.Stepping.{inside}
 use Rattle.chains.proofs.Going.{misses, cycles, wrong, more_room, goes_on, ends}
 use Rattle.chains.proofs.lookup.Indexed.walk.Goals as goal
 
 pub returns-in_default-clause-result_after : goal.returns-in_default-clause-result_after
-returns-in_default-clause-result_after c = rw (told _ c.cast_signed.type_inv c.cast_signed.ensures) (misses c.args.self.now.ordered c.requires.is_track c.loop-link.invariant c.loop-link-test.true c.in_default.ensures)
+returns-in_default-clause-result_after c = rw (cast_signed-is _ c.cast_signed.type_inv c.cast_signed.ensures) (misses c.args.self.now.ordered c.requires.is_track c.loop-link.invariant c.loop-link-test.true c.in_default.ensures)
 
 pub previous_at-previous-requires : goal.previous_at-previous-requires
 previous_at-previous-requires c = inside c.in-Some.ensures
 
 pub returns-then-listed-clause-result_after : goal.returns-then-listed-clause-result_after
-returns-then-listed-clause-result_after c = rw (told _ c.cast_signed-then-listed.type_inv c.cast_signed-then-listed.ensures) (cycles c.args.self.now.ordered c.requires.is_track c.loop-link.invariant c.loop-link-test.true c.in-Some.ensures c.previous_at-previous.ensures (sym c.if-listed.true ∙ c.listed.ensures))
+returns-then-listed-clause-result_after c = rw (cast_signed-is _ c.cast_signed-then-listed.type_inv c.cast_signed-then-listed.ensures) (cycles c.args.self.now.ordered c.requires.is_track c.loop-link.invariant c.loop-link-test.true c.in-Some.ensures c.previous_at-previous.ensures (sym c.if-listed.true ∙ c.listed.ensures))
 
 pub returns-then-previous-expected-clause-result_after : goal.returns-then-previous-expected-clause-result_after
-returns-then-previous-expected-clause-result_after c = rw (told _ c.cast_signed-then-previous-expected.type_inv c.cast_signed-then-previous-expected.ensures, told _ c.cast_signed-then-previous-expected-2.type_inv c.cast_signed-then-previous-expected-2.ensures, told _ c.cast_signed-then-previous-expected-3.type_inv c.cast_signed-then-previous-expected-3.ensures) (wrong c.args.self.now.ordered c.requires.is_track c.loop-link.invariant c.loop-link-test.true c.in-Some.ensures c.previous_at-previous.ensures (sym c.if-listed.false ∙ c.listed.ensures) c.if-previous-expected.true)
+returns-then-previous-expected-clause-result_after c = rw (cast_signed-is _ c.cast_signed-then-previous-expected.type_inv c.cast_signed-then-previous-expected.ensures, cast_signed-is _ c.cast_signed-then-previous-expected-2.type_inv c.cast_signed-then-previous-expected-2.ensures, cast_signed-is _ c.cast_signed-then-previous-expected-3.type_inv c.cast_signed-then-previous-expected-3.ensures) (wrong c.args.self.now.ordered c.requires.is_track c.loop-link.invariant c.loop-link-test.true c.in-Some.ensures c.previous_at-previous.ensures (sym c.if-listed.false ∙ c.listed.ensures) c.if-previous-expected.true)
 
 pub overflow_cast-list : goal.overflow_cast-list
 overflow_cast-list c = omega (arith, inside c.in-Some.ensures, c.args.self.now.ordered.fits.few_records)

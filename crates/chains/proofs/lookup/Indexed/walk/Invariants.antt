@@ -1,3 +1,4 @@
+-- The first `n` records of the chain stand in the list, linked from the initial record on to `link`; they are no more than all records.
 use Prim.Native.Nat.{◌-◌}
 use Rattle.blocks.specs.Track.{number_of_track}
 use Rattle.chains.proofs.Going.{Going}

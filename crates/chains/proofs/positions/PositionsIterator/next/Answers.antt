@@ -1,4 +1,4 @@
--- `next` meets its contract. Assumes nothing.
+-- Link 0 leaves nothing of the chain; any other link has its record, which is the first of what is left (AlongChain). Assumes nothing.
 use native.Mathlib.Omega.{arith}
 use Rattle.chains.proofs.AlongChain.{along-nothing, along-few, along-absent, along-more, along-first}
 use Rattle.chains.proofs.positions.PositionsIterator.next.Goals as goal

@@ -1,4 +1,4 @@
--- `curves` meets its contract: each byte is clamped. Assumes nothing.
+-- Each byte is clamped. Assumes nothing.
 use Rattle.keys.proofs.Clamping.{four}
 use Rattle.keys.proofs.body.BoneBody.curves.Goals as goal
 

@@ -1,4 +1,4 @@
--- `write_key` meets its contract: the key is its head, its pose and its curves, one behind the other. Assumes nothing.
+-- The key is its head, its pose and its curves, one behind the other. Assumes nothing.
 use Rattle.keys.proofs.Lengths.{bone-parts, bone-room}
 use Rattle.keys.proofs.Placing.{room-first, room-second, room-third, wrote-three}
 use mathlib.Core.Path.{refl}

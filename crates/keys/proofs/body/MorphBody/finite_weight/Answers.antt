@@ -1,4 +1,4 @@
--- `finite_weight` meets its contract. Assumes nothing.
+-- The bits are found finite before they are a float, and finite bits are no NaN's; the float is that of the body's bytes. Assumes nothing.
 use Rattle.std.proofs.Common.{sym, ap, ◌∙◌}
 use Rattle.layout.specs.Numbers.{float}
 use Rattle.clip.specs.Keys.{finite}

@@ -1,4 +1,4 @@
--- `write_pose` meets its contract: the orientation is written behind the translation. Assumes nothing.
+-- The orientation is written behind the translation. Assumes nothing.
 use Rattle.keys.proofs.Placing.{wrote_then}
 use Rattle.keys.proofs.plain.BonePlain.write_pose.Goals as goal
 

@@ -1,4 +1,5 @@
--- `first_place` meets its contract. Assumes nothing.
+-- Numbers do not fall along the slots, so those that pass the closure's test come first (Halving), and where std's `partition_point` parts
+-- them is the first place. Assumes nothing.
 use Rattle.std.proofs.Common.{rules}
 use Rattle.std.proofs.lemmas.List.Sorted.{IsPartitionPoint-from_clause}
 use Rattle.order.specs.Field.{number_of}

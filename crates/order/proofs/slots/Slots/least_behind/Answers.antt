@@ -1,4 +1,4 @@
--- `least_behind` meets its contract: the answer so far is right for the places passed. Assumes nothing.
+-- A slot right behind an equal number lowers the answer to its position, if that is less; any other slot leaves it. Assumes nothing.
 use Rattle.order.proofs.Neighbours.{behind-told, not_behind, pass-over, pass-least}
 use Rattle.order.proofs.slots.Slots.least_behind.Goals as goal
 use Rattle.order.proofs.slots.Slots.least_behind.Goals.{then-equals_before, else-equals_before}

@@ -1,3 +1,4 @@
+-- `least` is the answer for the places below `i`.
 use Rattle.order.proofs.Neighbours.{Passed}
 use Rattle.order.proofs.slots.Slots.least_behind.Given as goal
 

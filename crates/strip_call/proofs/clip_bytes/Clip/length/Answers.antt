@@ -1,4 +1,4 @@
--- `length` meets its contract. Assumes nothing.
+-- The tracks of a kind have at most 65,535 times 4,000,000 bytes (writing, Measuring), so the sum does not overflow. Assumes nothing.
 use native.Mathlib.Omega.{arith}
 use Rattle.writing.proofs.Measuring.{tracks-fit}
 use Rattle.strip_call.proofs.clip_bytes.Clip.length.Goals as goal

@@ -1,4 +1,4 @@
--- `write` meets its contract. Assumes nothing.
+-- The four pieces, each written behind the one before, are the strip (Pieces). Assumes nothing.
 use Rattle.strip_call.proofs.Pieces.{all-written}
 use Rattle.strip_call.proofs.clip_bytes.Clip.write.Goals as goal
 

@@ -1,0 +1,3 @@
+pub mod ByNumber
+pub mod WholePayload
+pub mod SameRecord

@@ -1,4 +1,4 @@
--- Numbers or bytes written into a lent slice from a place on, "as far as it reaches": a place past the end is passed over (`set` leaves the
+-- Numbers or bytes written into a lent slice from a place on, as far as it reaches: a place past the end is passed over (`set` leaves the
 -- list as it is there), and the other places stay as they were.
 use Rattle.std.specs.Prelude.{ℕ, suc, List, [], ◌∷◌, set}
 

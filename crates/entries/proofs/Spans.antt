@@ -65,15 +65,15 @@ text-at-inside (Text.Bone k) m s = name-inside m.front.counts.bones k s
 text-at-inside (Text.Morph k) m s = name-inside m.front.counts.morphs k s
 
 -- A text that is answered has as many bytes as its length says, all of them in the section.
-pub record WholePayload (s : List ℕ) (p : Part) : Type 0 where
+pub record WholeText (s : List ℕ) (p : Part) : Type 0 where
   pub inside : p.offset + p.byte_length ≤ length s
   pub many : length (bytes_of p s) ≡ p.byte_length
 
-pub text-held : (limits : Limits) (text : Text) (s : List ℕ) (start : ℕ) (p : Part) → text_of limits text s start ≡ answered p → WholePayload s p
+pub text-held : (limits : Limits) (text : Text) (s : List ℕ) (start : ℕ) (p : Part) → text_of limits text s start ≡ answered p → WholeText s p
 unfolding text_of
 text-held limits text s start p e = go (after (model_section limits s start) (λ m end. text_at text m s)) refl e
   where
-    go : (w : Walk Part) → after (model_section limits s start) (λ m end. text_at text m s) ≡ w → answer w ≡ answered p → WholePayload s p
+    go : (w : Walk Part) → after (model_section limits s start) (λ m end. text_at text m s) ≡ w → answer w ≡ answered p → WholeText s p
     go (fine q next) is e =
         let same : q ≡ p = cc in
         let c = came (model_section limits s start) _ q next is in

@@ -35,7 +35,7 @@ pub trait Keyframe: Copy {
 }
 
 // The payload of a record, as the part of the section that holds it: empty where the record's own call with the same inputs refuses. The
-// same two arms stand in texts and in tracks, camera: what is read, and which part of it is answered, differ.
+// same two arms stand in texts and in camera_light, camera: what is read, and which part of it is answered, differ.
 pub fn payload<K: Keyframe>(
     section: &[u8],
     start: usize,

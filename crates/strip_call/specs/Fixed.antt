@@ -1,4 +1,5 @@
--- "Nothing is left open": what the strip call answers is fixed by its contract. The proof is in proofs/Fixed.antt.
+-- Document 01, "Contracts for this work": "Nothing is left open": what the strip call answers is fixed by its contract. The proof is in
+-- proofs/Fixed.antt.
 use Rattle.std.specs.Prelude.{◌≡◌}
 use Rattle.strip_call.specs.{Answers.{strip_read}, Run.{Run}}
 

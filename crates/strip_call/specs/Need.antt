@@ -1,4 +1,4 @@
--- How many places of each work slice the records of both kinds take: "A + B".
+-- How many places of each work slice the records of both kinds take: "A + B" (FORMAT, The strip call).
 use Rattle.std.specs.Prelude.{ℕ, ◌+◌}
 use Rattle.strip_call.specs.declared.model_records.ModelRecords.{ModelRecords}
 

@@ -1,4 +1,5 @@
--- Document 01, "Build order" (FORMAT, The build): "Reached plus loose is the number of additional bone and morph records." The proof is in proofs/ReachedAndLoose.antt.
+-- Document 01, "Build order" (FORMAT, The build): "Reached plus loose is the number of additional bone and morph records." The proof is in
+-- proofs/ReachedAndLoose.antt.
 use Rattle.std.specs.Prelude.{◌+◌, ◌≡◌}
 use Rattle.layout.specs.Walk.{answered}
 use Rattle.section.specs.{Limits.{edition1}, Summary.{model_summary}}

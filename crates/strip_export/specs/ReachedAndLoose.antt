@@ -1,5 +1,5 @@
--- Reached and loose as a caller in C sees them: the second and the third of the values, where there are places for three. "Reached plus
--- loose is the number of additional bone and morph records." The proof is in proofs/Seen.antt.
+-- Reached and loose (FORMAT, The build) as a caller in C sees them: the second and the third of the values, where there are places for
+-- three. "Reached plus loose is the number of additional bone and morph records." The proof is in proofs/Seen.antt.
 use Rattle.std.specs.Prelude.{◌+◌, ◌≤◌, ◌≡◌, length, get_or}
 use Rattle.layout.specs.Walk.{answered}
 use Rattle.section.specs.{Limits.{edition1}, Summary.{model_summary}}

@@ -1,7 +1,7 @@
 #!/usr/bin/env python3
-"""Writes a model section, the widths of its items and what is to be shown of it, for crates/truncations and crates/contents.
+"""Writes a model section, the widths of its items and what is to be shown of it, for crates/by_hand and crates/contents.
 
-    python3 oracle/truncations.py crates/truncations/data crates/contents
+    python3 oracle/truncations.py crates/by_hand/data crates/contents
 
 The section is put together item by item after document 01's tables, and each item's width is noted as it is written: a number, a
 byte, a string body, an interpolation block or a skipped block is one item. So the widths come from no reader. `section` starts

@@ -1,10 +1,10 @@
--- Every case of the table is as document 01 says, by computation. Assumes nothing.
-use mathlib.Core.List.{map}
+-- Every case of the tables is as document 01 says, by computation. Assumes nothing.
 use mathlib.Core.Path.{◌≡◌, refl}
 use lib.Ieee.{span, climb, size, odd, units, round, sum, add, mul, lt, eq, le, of_fields, of_bits}
 use Rattle.layout.specs.Walk.{item, string, times, count, items, bytes_at}
 use Rattle.layout.specs.Records as Table
 use Rattle.binary.specs.Groups.{u32s}
+use Rattle.records.specs.Pose.{pose_of}
 use Rattle.section.specs.Model.{opening, names, counted_block, counts, view, scroll, front, keyframes, keyframe_blocks, states, ending, model_parts, model_section}
 use Rattle.section.specs.Summary.{sections_of, summary_of, model_summary}
 use Rattle.clip.specs.First.{first_met, any, number, member, total}
@@ -18,8 +18,20 @@ use Rattle.strip.specs.Keys.{little_endian, map_byte, present, key_bytes}
 use Rattle.strip.specs.Strip.{keys_bytes, track_bytes, tracks_bytes, strip_of}
 use Rattle.strip.specs.Work.{each, inserted, by_index, track_mark, first_work, second_work}
 use Rattle.strip.specs.Call.{strip_call}
-use Rattle.cases.specs.Table.{Case, table, given}
+use Rattle.cases.specs.Table.{Hold, table}
+use Rattle.cases.specs.Refusals.{refusals}
+use Rattle.cases.specs.Chains.{chains}
+use Rattle.cases.specs.Keys.{key_cases}
 
-pub cases : map (λ (c : Case). given c.asked c.section) table ≡ map (λ (c : Case). c.gives) table
-unfolding item string times count items opening names counted_block counts u32s view scroll front keyframes keyframe_blocks states ending model_parts model_section sections_of summary_of model_summary first_met any number member total index_refusal scan record_of follow chain key_test squared_length translation_fails orientation_fails pose_asked weight_asked chain_of keys reached_before disconnected links_followed loose records_refusal track_refusal build_refusal bytes_at bone_body morph_body initial_at additional_at records_at bones morphs clip_refusal reached_records loose_records plain_float plain_floats plain_bytes little_endian map_byte present key_bytes keys_bytes track_bytes tracks_bytes strip_of each inserted by_index track_mark first_work second_work strip_call Table.size span climb size odd units round sum add mul lt eq le of_fields of_bits
-cases = refl
+pub cases : Hold table × Hold refusals × Hold chains × Hold key_cases
+unfolding item string times count items opening names counted_block counts u32s view scroll front keyframes keyframe_blocks states ending model_parts model_section sections_of summary_of model_summary first_met any number member total index_refusal scan record_of follow chain pose_of key_test squared_length translation_fails orientation_fails pose_asked weight_asked chain_of keys reached_before disconnected links_followed loose records_refusal track_refusal build_refusal bytes_at bone_body morph_body initial_at additional_at records_at bones morphs clip_refusal reached_records loose_records plain_float plain_floats plain_bytes little_endian map_byte present key_bytes keys_bytes track_bytes tracks_bytes strip_of each inserted by_index track_mark first_work second_work strip_call Table.size span climb size odd units round sum add mul lt eq le of_fields of_bits
+cases = (
+  (refl, (refl, (refl, (refl, (refl, (refl, (refl, (refl, (refl, (refl, (refl, (refl, (refl, tt))))))))))))),
+  (refl, (refl, (refl, (refl, (refl, (refl, (refl, tt))))))),
+  (refl, (refl, (refl, (refl, tt)))),
+  (refl, (refl, (refl, (refl, (refl, (refl, (refl, (refl, tt)))))))),
+)
+
+-- The marked cases of "Sections by hand".
+pub marked : Hold table
+marked = cases.0

@@ -1,2 +1,5 @@
+pub mod Chains
+pub mod Keys
+pub mod Refusals
 pub mod Sections
 pub mod Table

@@ -33,6 +33,14 @@ one_bone = bone 0 one (zeros 4)
 abbrev pub without_orientation : List ℕ
 without_orientation = bone 0 (zeros 4) (zeros 4)
 
+-- An additional bone record: its index, frame, previous link and next link.
+abbrev pub additional_bone : List ℕ → List ℕ → ℕ → ℕ → List ℕ
+additional_bone index frame previous next = index ++ frame ++ small previous ++ small next ++ plain_bone one
+
 -- "one record like it but of frame 1": the bone's link; the record's index, previous link and next link
 abbrev pub linked : ℕ → ℕ → ℕ → ℕ → List ℕ
-linked link index previous next = bone link one (small 1 ++ small index ++ small 1 ++ small previous ++ small next ++ plain_bone one)
+linked link index previous next = bone link one (small 1 ++ additional_bone (small index) (small 1) previous next)
+
+-- Two nameless bones that are plain, the first with a link.
+abbrev pub two_bones : ℕ → List ℕ
+two_bones link = zeros 260 ++ 2 ∷ zeros 48 ++ zeros 8 ++ small link ++ plain_bone one ++ zeros 12 ++ plain_bone one ++ zeros 95

@@ -1,5 +1,5 @@
 -- Document 01, "Sections by hand": each section, what reading it from 0 gives, and what the strip call gives.
-use Rattle.std.specs.Prelude.{ℕ, List, [], ◌∷◌, ℤ, pos, take, replicate}
+use Rattle.std.specs.Prelude.{ℕ, List, [], ◌∷◌, ℤ, ◌≡◌, pos, take, replicate}
 use Rattle.layout.specs.Walk.{Answer, answered, declined}
 use Rattle.section.specs.{Limits.{edition1}, Summary.{model_summary}}
 use Rattle.section.specs.declared.summary.PmmDocumentModelSummary.{PmmDocumentModelSummary}
@@ -35,13 +35,27 @@ stripped o =
 -- The slices that are lent for a strip hold nines.
 abbrev pub given : Question → List ℕ → Given
 given reading s = read (model_summary edition1 s 0)
-given strip s = stripped (strip_call edition1 count_width s 0 (replicate 2 9) (replicate 2 9) (replicate 20 9))
+given strip s = stripped (strip_call edition1 count_width s 0 (replicate 2 9) (replicate 2 9) (replicate 28 9))
 
 pub record Case : Type 0 where
   pub asked : Question
   pub section : List ℕ
   pub gives : Given
 
+-- Every case of a table is as it says.
+abbrev pub Hold : List Case → Type 0
+Hold [] = Unit {0}
+Hold (c ∷ cs) = (given c.asked c.section ≡ c.gives) × Hold cs
+
+-- A section that the strip call accepts, with no additional record; one that it refuses.
+abbrev pub gives_strip : List ℕ → List ℕ → Case
+gives_strip section bytes =
+    record { asked = strip; section = section; gives = accepts bytes 0 0 (9 ∷ 9 ∷ []) (9 ∷ 9 ∷ []) }
+
+abbrev pub gives_refusal : List ℕ → ℕ → List ℤ → Case
+gives_refusal section number values = record { asked = strip; section = section; gives = refuses number values }
+
+-- The cases that are marked there.
 abbrev pub table : List Case
 table =
     record { asked = reading; section = zeros 340; gives = reads 307 311 315 333 340 }

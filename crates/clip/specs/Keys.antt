@@ -5,7 +5,7 @@ use Rattle.std.specs.Float.{nan, inf, fin, binary32}
 use Rattle.std.specs.Float.Ieee.{add, mul, le}
 use Rattle.layout.specs.Refusals.{negative_frame, repeated_frame, invalid_translation, invalid_orientation, invalid_weight}
 use Rattle.layout.specs.{Numbers.{signed, negative, float}, Walk.{Refusal, refusal, u32_at}}
-use Rattle.records.specs.declared.pose.Pose.{Pose}
+use Rattle.records.specs.{Pose.{pose_of}, declared.pose.{Pose.{Pose}, PoseBits.{PoseBits}}}
 use Rattle.clip.specs.{First.{given, ◌or◌, member}, Fields.{BoneBody, Kind, bone, morph, refusal_of}}
 
 pub record Key (B : Type 0) : Type 0 where
@@ -63,17 +63,16 @@ pose_asked p = given (translation_fails p) invalid_translation or given (orienta
 abbrev pub float_at : List ℕ → ℕ → Float
 float_at bytes at = float (u32_at bytes at)
 
-abbrev pub posed : BoneBody → Pose
-posed b =
+-- "pose bits": the numbers of 4 bytes that a body's translation and orientation hold, and the pose that they make.
+abbrev pub pose_bits_of : BoneBody → PoseBits
+pose_bits_of b =
     record {
-      translation_x = float_at b.translation 0;
-      translation_y = float_at b.translation 4;
-      translation_z = float_at b.translation 8;
-      orientation_x = float_at b.orientation 0;
-      orientation_y = float_at b.orientation 4;
-      orientation_z = float_at b.orientation 8;
-      orientation_w = float_at b.orientation 12;
+      translation = u32_at b.translation 0 ∷ u32_at b.translation 4 ∷ u32_at b.translation 8 ∷ [];
+      orientation = u32_at b.orientation 0 ∷ u32_at b.orientation 4 ∷ u32_at b.orientation 8 ∷ u32_at b.orientation 12 ∷ [];
     }
+
+abbrev pub posed : BoneBody → Pose
+posed b = pose_of (pose_bits_of b)
 
 -- "14 weight not finite"
 unfoldable pub weight_asked : Float → Option ℕ

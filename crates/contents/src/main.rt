@@ -16,23 +16,53 @@ use std::{fmt, io};
 // Where the section starts in its file.
 const START: usize = 3;
 
+// The lists that are shown: names and records.
+#[derive(Clone, Copy)]
+enum Shown {
+    BoneNames,
+    MorphNames,
+    InitialBones,
+    Bones,
+    InitialMorphs,
+    Morphs,
+    InitialModels,
+    Models,
+}
+
+impl Shown {
+    fn part(self, section: &[u8], number: usize) -> &[u8] {
+        match self {
+            Shown::BoneNames => texts::text_part(section, START, Text::Bone(number)),
+            Shown::MorphNames => texts::text_part(section, START, Text::Morph(number)),
+            Shown::InitialBones => payload::<Bone>(section, START, false, number),
+            Shown::Bones => payload::<Bone>(section, START, true, number),
+            Shown::InitialMorphs => payload::<Morph>(section, START, false, number),
+            Shown::Morphs => payload::<Morph>(section, START, true, number),
+            Shown::InitialModels => payload::<Model>(section, START, false, number),
+            Shown::Models => payload::<Model>(section, START, true, number),
+        }
+    }
+}
+
 // Every entry of a list, one a line.
-fn show_list<'a, F: Fn(usize) -> &'a [u8]>(
+fn show_list(
     rt: &impl Print,
+    section: &[u8],
     what: &str,
+    list: Shown,
     count: usize,
-    part: F,
-) -> io::Result<()>
-    requires { F.IsAlwaysCallable part }
-{
+) -> io::Result<()> {
     for number in 0..count {
-        println!(rt; "{what} {number} {}", Hex(part(number)))?;
+        println!(rt; "{what} {number} {}", Hex(list.part(section, number)))?;
     }
     Ok(())
 }
 
+fn show_text(rt: &impl Print, section: &[u8], what: &str, text: Text) -> io::Result<()> {
+    println!(rt; "{what} {}", Hex(texts::text_part(section, START, text)))
+}
+
 fn show(rt: &impl Print, section: &[u8], m: PmmDocumentModelSummary) -> io::Result<()> {
-    let text = |text| texts::text_part(section, START, text);
     println!(rt;
         "bones {} morphs {} constraints {} outside parents {} end {}",
         m.bone_count,
@@ -41,29 +71,34 @@ fn show(rt: &impl Print, section: &[u8], m: PmmDocumentModelSummary) -> io::Resu
         m.outside_parent_subject_bone_count,
         m.offset_end
     )?;
-    println!(rt; "name {}", Hex(text(Text::Name)))?;
-    println!(rt; "english name {}", Hex(text(Text::EnglishName)))?;
-    println!(rt; "path {}", Hex(text(Text::Path)))?;
-    show_list(rt, "bone", m.bone_count, |n| text(Text::Bone(n)))?;
-    show_list(rt, "morph", m.morph_count, |n| text(Text::Morph(n)))?;
-    show_list(rt, "initial bone record", m.initial_bone_keyframes, |n| {
-        payload::<Bone>(section, START, false, n)
-    })?;
-    show_list(rt, "bone record", m.bone_keyframes, |n| {
-        payload::<Bone>(section, START, true, n)
-    })?;
-    show_list(rt, "initial morph record", m.initial_morph_keyframes, |n| {
-        payload::<Morph>(section, START, false, n)
-    })?;
-    show_list(rt, "morph record", m.morph_keyframes, |n| {
-        payload::<Morph>(section, START, true, n)
-    })?;
-    show_list(rt, "initial model record", m.initial_model_keyframes, |n| {
-        payload::<Model>(section, START, false, n)
-    })?;
-    show_list(rt, "model record", m.model_keyframes, |n| {
-        payload::<Model>(section, START, true, n)
-    })
+    show_text(rt, section, "name", Text::Name)?;
+    show_text(rt, section, "english name", Text::EnglishName)?;
+    show_text(rt, section, "path", Text::Path)?;
+    for (what, list, count) in [
+        ("bone", Shown::BoneNames, m.bone_count),
+        ("morph", Shown::MorphNames, m.morph_count),
+        (
+            "initial bone record",
+            Shown::InitialBones,
+            m.initial_bone_keyframes,
+        ),
+        ("bone record", Shown::Bones, m.bone_keyframes),
+        (
+            "initial morph record",
+            Shown::InitialMorphs,
+            m.initial_morph_keyframes,
+        ),
+        ("morph record", Shown::Morphs, m.morph_keyframes),
+        (
+            "initial model record",
+            Shown::InitialModels,
+            m.initial_model_keyframes,
+        ),
+        ("model record", Shown::Models, m.model_keyframes),
+    ] {
+        show_list(rt, section, what, list, count)?;
+    }
+    Ok(())
 }
 
 fn main(rt: HostRuntime) -> io::Result<()> {

@@ -10,7 +10,7 @@ use lib.ListN.{length, take, drop}
 use lib.Seq.{take-take}
 use Rattle.std.specs.List.{concat}
 use Rattle.std.specs.Option.{option_map}
-use Rattle.layout.specs.Numbers.{signed}
+use Rattle.layout.specs.Numbers.{signed, float}
 use Rattle.layout.specs.Walk.{fine, Answer, answered, bytes_at}
 use Rattle.layout.specs.Records.{bone, morph, size}
 use Rattle.layout.proofs.Slices.{bytes_part, bytes_behind}
@@ -95,12 +95,13 @@ module _ (s : List ℕ) where
 
       same-bone : (Base : PmmDocumentBaseKeyframeSummary → Type 0) → Base (base_of v.base) → PoseShown s (bone_body s (at + front i)) v → SameBone s call Base (bone_body s (at + front i))
       unfolding bone_of bone_body size
-      same-bone Base base pose =
+      same-bone Base base bits =
           record {
             summary = bone_of v at to;
             answers = is;
             base = base;
-            pose = sym pose;
+            pose_bits = sym bits;
+            pose = ap pose_of (sym bits);
             curves = bone-curves;
             part = bone-front 16 (omega arith);
             payload = bone-front 44 (omega arith) ∙ body-bytes (at + front i);
@@ -119,8 +120,8 @@ module _ (s : List ℕ) where
 
       same-morph : (Base : PmmDocumentBaseKeyframeSummary → Type 0) → Base (base_of v.base) → WeightShown s (morph_body s (at + front i)) v → SameMorph s call Base (morph_body s (at + front i))
       unfolding morph_of morph_body
-      same-morph Base base weight =
-          record { summary = morph_of v at to; answers = is; base = base; weight = sym weight; payload = morph-front }
+      same-morph Base base bits =
+          record { summary = morph_of v at to; answers = is; base = base; weight_bits = sym bits; weight = ap float (sym bits); payload = morph-front }
 
 module _ (limits : Limits) (s : List ℕ) (start : ℕ) (m : Model) (end : ℕ) (reads : model_section limits s start ≡ fine m end) where
   stands : (list : SectionList) → Stands s (entries_of list m)

@@ -1,15 +1,15 @@
 -- Document 01, "Build fields" (FORMAT, What a build takes): "Bone: frame, next link, 16 interpolation bytes, pose bits. Morph: frame, next
 -- link, weight bits. An additional record also has index and previous link." The record of a number that a call answers is the record of
--- that position that a build takes: its summary shows these fields, and the bytes of its body are the first of the payload that is handed
--- back (module 7: "as the part of the section that holds it").
+-- that position that a build takes: its summary shows these fields, pose and weight as floats and as bits, and the bytes of its body are the
+-- first of the payload that is handed back (module 7: "as the part of the section that holds it").
 use Rattle.std.specs.{Prelude.{ℕ, ◌<◌, true, false, List, ◌++◌, ◌≡◌, take, Some, None}, List.{concat}}
-use Rattle.layout.specs.{Numbers.{signed}, Walk.{Answer, answered}}
+use Rattle.layout.specs.{Numbers.{signed}, Walk.{Answer, answered, u32_at}}
 use Rattle.records.specs.declared.base.PmmDocumentBaseKeyframeSummary.{PmmDocumentBaseKeyframeSummary}
 use Rattle.records.specs.declared.bone.PmmDocumentBoneKeyframeSummary.{PmmDocumentBoneKeyframeSummary}
 use Rattle.records.specs.declared.morph.PmmDocumentMorphKeyframeSummary.{PmmDocumentMorphKeyframeSummary}
 use Rattle.section.specs.declared.{limits.Limits.{Limits}, model.Model.{Model}}
 use Rattle.entries.specs.{Keyframes.{bone_keyframe, morph_keyframe}, Interpolation.{curves_or}, Parts.{payload_or}}
-use Rattle.clip.specs.{Fields.{Initial, Additional, BoneBody}, Keys.{posed, float_at}, Section.{bones, morphs}}
+use Rattle.clip.specs.{Fields.{Initial, Additional, BoneBody}, Keys.{posed, pose_bits_of, float_at}, Section.{bones, morphs}}
 
 -- The base that is shown of an additional record, and that of an initial one, which has no index and whose previous link no build takes.
 pub record SameBase {B : Type 0} (r : Additional B) (shown : PmmDocumentBaseKeyframeSummary) : Type 0 where
@@ -29,6 +29,7 @@ pub record SameBone (s : List ℕ) (call : Answer PmmDocumentBoneKeyframeSummary
   pub summary : PmmDocumentBoneKeyframeSummary
   pub answers : call ≡ answered summary
   pub base : Base summary.base
+  pub pose_bits : summary.pose_bits ≡ pose_bits_of body
   pub pose : summary.pose ≡ posed body
   pub curves : concat (curves_or call s) ≡ body.interpolation
   pub part : take 16 (payload_or (λ b. b.span) call s) ≡ body.interpolation
@@ -39,6 +40,7 @@ pub record SameMorph (s : List ℕ) (call : Answer PmmDocumentMorphKeyframeSumma
   pub summary : PmmDocumentMorphKeyframeSummary
   pub answers : call ≡ answered summary
   pub base : Base summary.base
+  pub weight_bits : summary.weight_bits ≡ u32_at body 0
   pub weight : summary.weight ≡ float_at body 0
   pub payload : take 4 (payload_or (λ b. b.span) call s) ≡ body
 

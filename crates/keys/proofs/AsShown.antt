@@ -10,16 +10,16 @@ use Rattle.layout.specs.Numbers.{float}
 use Rattle.layout.specs.Walk.{Reader, ◌>>=◌, ◌>>◌, give, here, fine, u32_at, u32, bool, block}
 use Rattle.layout.proofs.Inversion.{came, Was, item-was}
 use Rattle.records.specs.Base.{index_bits, base_bits}
-use Rattle.records.specs.Pose.{pose_bits, pose_of}
+use Rattle.records.specs.Pose.{pose_bits}
 use Rattle.records.specs.Keyframes.{bone_bits, morph_bits}
 use Rattle.records.specs.declared.base.BaseBits.{BaseBits}
 use Rattle.records.specs.declared.pose.PoseBits.{PoseBits}
 use Rattle.records.specs.declared.bone.BoneBits.{BoneBits}
 use Rattle.records.specs.declared.morph.MorphBits.{MorphBits}
 use Rattle.clip.specs.Fields.{Initial, Additional, BoneBody}
-use Rattle.clip.specs.Keys.{posed, float_at}
+use Rattle.clip.specs.Keys.{pose_bits_of}
 use Rattle.clip.specs.Section.{bone_body, morph_body, initial_at, additional_at}
-use Rattle.keys.proofs.Bodies.{pose-read, weight_is}
+use Rattle.keys.proofs.Bodies.{bits-read, weight-bits-are}
 use Rattle.keys.proofs.ItemsRead.{number-was}
 
 -- An additional record's base, and an initial one's, which has no index and whose previous link is no build field.
@@ -114,10 +114,10 @@ module _ (s : List ℕ) where
   unfolding base_bits
   initial-base at b next e = let made = rest-made None at at b next refl e in (sym made.0, made.1)
 
-  pose-shown : (from j : ℕ) (p : PoseBits) (next : ℕ) → from + 16 ≡ j → pose_bits s j ≡ fine p next → posed (bone_body s from) ≡ pose_of p
-  pose-shown from j p next to read = sym (pose-read s from p next (sym (ap (pose_bits s) to ∙ read)))
+  pose-shown : (from j : ℕ) (p : PoseBits) (next : ℕ) → from + 16 ≡ j → pose_bits s j ≡ fine p next → pose_bits_of (bone_body s from) ≡ p
+  pose-shown from j p next to read = sym (bits-read s from p next (sym (ap (pose_bits s) to ∙ read)))
 
-  pub bone-rest : (base : BaseBits) (from i : ℕ) (b : BoneBits) (next : ℕ) → from ≡ i → bone_rest base s i ≡ fine b next → (base ≡ b.base) × (posed (bone_body s from) ≡ pose_of b.pose)
+  pub bone-rest : (base : BaseBits) (from i : ℕ) (b : BoneBits) (next : ℕ) → from ≡ i → bone_rest base s i ≡ fine b next → (base ≡ b.base) × (pose_bits_of (bone_body s from) ≡ b.pose)
   bone-rest base from i b next to e =
       let c = came (block 16 s i) _ b next e in
       let p = came (pose_bits s c.at) _ b next c.rest in
@@ -125,22 +125,22 @@ module _ (s : List ℕ) where
       let f = came (bool s d.at) _ b next d.rest in
       go c.at p.value p.at d.value f.value f.at (item-was 16 _ s i _ _ c.first).to p.first f.rest
     where
-      go : (j : ℕ) (p : PoseBits) (k : ℕ) (d f : Bool) (l : ℕ) → i + 16 ≡ j → pose_bits s j ≡ fine p k → fine (record { base = base; pose = p; physics_disabled = d; selected = f }) l ≡ fine b next → (base ≡ b.base) × (posed (bone_body s from) ≡ pose_of b.pose)
+      go : (j : ℕ) (p : PoseBits) (k : ℕ) (d f : Bool) (l : ℕ) → i + 16 ≡ j → pose_bits s j ≡ fine p k → fine (record { base = base; pose = p; physics_disabled = d; selected = f }) l ≡ fine b next → (base ≡ b.base) × (pose_bits_of (bone_body s from) ≡ b.pose)
       go j p k d f l behind read e =
           let whole : ◌≡◌ {A = BoneBits} (record { base = base; pose = p; physics_disabled = d; selected = f }) b = cc in
           let there : from + 16 ≡ j = omega (arith, to, behind) in
-          (ap (λ (v : BoneBits). v.base) whole, pose-shown from j p k there read ∙ ap (λ (v : BoneBits). pose_of v.pose) whole)
+          (ap (λ (v : BoneBits). v.base) whole, pose-shown from j p k there read ∙ ap (λ (v : BoneBits). v.pose) whole)
 
-  pub morph-rest : (base : BaseBits) (from i : ℕ) (b : MorphBits) (next : ℕ) → from ≡ i → morph_rest base s i ≡ fine b next → (base ≡ b.base) × (float_at (morph_body s from) 0 ≡ float b.weight)
+  pub morph-rest : (base : BaseBits) (from i : ℕ) (b : MorphBits) (next : ℕ) → from ≡ i → morph_rest base s i ≡ fine b next → (base ≡ b.base) × (u32_at (morph_body s from) 0 ≡ b.weight)
   morph-rest base from i b next to e =
       let w = came (u32 s i) _ b next e in
       let d = came (bool s w.at) _ b next w.rest in
       go w.value d.value d.at (number-was s i w.value w.at w.first).is d.rest
     where
-      go : (w : ℕ) (d : Bool) (l : ℕ) → u32_at s i ≡ w → fine (record { base = base; weight = w; selected = d }) l ≡ fine b next → (base ≡ b.base) × (float_at (morph_body s from) 0 ≡ float b.weight)
+      go : (w : ℕ) (d : Bool) (l : ℕ) → u32_at s i ≡ w → fine (record { base = base; weight = w; selected = d }) l ≡ fine b next → (base ≡ b.base) × (u32_at (morph_body s from) 0 ≡ b.weight)
       go w d l is e =
           let whole : ◌≡◌ {A = MorphBits} (record { base = base; weight = w; selected = d }) b = cc in
-          (ap (λ (v : MorphBits). v.base) whole, sym (weight_is s from) ∙ ap float (ap (u32_at s) to ∙ is) ∙ ap (λ (v : MorphBits). float v.weight) whole)
+          (ap (λ (v : MorphBits). v.base) whole, sym (weight-bits-are s from) ∙ ap (u32_at s) to ∙ is ∙ ap (λ (v : MorphBits). v.weight) whole)
 
   module _ {B : Type 0} (body : List ℕ → ℕ → B) (at : ℕ) (base : BaseBits) (i : ℕ) where
     additional-shown : (b : BaseBits) → base ≡ b → base_bits true s at ≡ fine base i → AdditionalShown (additional_at body s at) b
@@ -184,10 +184,10 @@ module _ (s : List ℕ) where
         (initial-shown body at x.value x.at (base-of b) fields.0 x.first, fields.1)
 
   abbrev pub PoseShown : BoneBody → BoneBits → Type 0
-  PoseShown body b = posed body ≡ pose_of b.pose
+  PoseShown body b = pose_bits_of body ≡ b.pose
 
   abbrev pub WeightShown : List ℕ → MorphBits → Type 0
-  WeightShown body b = float_at body 0 ≡ float b.weight
+  WeightShown body b = u32_at body 0 ≡ b.weight
 
   pub bone-shown : (at : ℕ) (b : BoneBits) (end : ℕ) → bone_bits true s at ≡ fine b end → AdditionalShown (additional_at bone_body s at) b.base × PoseShown (additional_at bone_body s at).body b
   unfolding bone_bits

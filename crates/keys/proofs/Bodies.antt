@@ -13,7 +13,7 @@ use Rattle.layout.specs.Walk.{fine, u32_at, bytes_at}
 use Rattle.records.specs.Pose.{pose_bits, pose_of}
 use Rattle.records.specs.declared.pose.PoseBits.{PoseBits}
 use Rattle.records.proofs.PoseWhole.{seven, pose-was}
-use Rattle.clip.specs.Keys.{posed, float_at}
+use Rattle.clip.specs.Keys.{posed, pose_bits_of, float_at}
 use Rattle.clip.specs.Section.{bone_body, morph_body}
 
 pub length-bytes_at : (s : List ℕ) (at n : ℕ) → length (bytes_at s at n) ≡ n
@@ -48,13 +48,16 @@ word_in s at n i fits =
 pub first-word-in : (s : List ℕ) (at n : ℕ) → 4 ≤ n → u32_at (bytes_at s at n) 0 ≡ u32_at s at
 first-word-in s at n fits = word_in s at n 0 (omega arith) ∙ ap (u32_at s) (add-zero at)
 
-pub weight_is : (s : List ℕ) (at : ℕ) → float (u32_at s at) ≡ float_at (morph_body s at) 0
+pub weight-bits-are : (s : List ℕ) (at : ℕ) → u32_at s at ≡ u32_at (morph_body s at) 0
 unfolding morph_body
-weight_is s at = ap float (sym (first-word-in s at 4 (omega arith)))
+weight-bits-are s at = sym (first-word-in s at 4 (omega arith))
 
-pub pose-is : (s : List ℕ) (at : ℕ) → pose_of (seven s (at + 16)) ≡ posed (bone_body s at)
-unfolding pose_of bone_body
-pose-is s at =
+pub weight_is : (s : List ℕ) (at : ℕ) → float (u32_at s at) ≡ float_at (morph_body s at) 0
+weight_is s at = ap float (weight-bits-are s at)
+
+bits-are : (s : List ℕ) (at : ℕ) → seven s (at + 16) ≡ pose_bits_of (bone_body s at)
+unfolding bone_body
+bits-are s at =
     rw (
       add_assoc at 16 12,
       add_assoc at 16 16,
@@ -72,8 +75,11 @@ pose-is s at =
       add_assoc at 28 12,
     )
 
--- The pose that the record reader has of a body.
+-- The pose's bits that the record reader has of a body, and the pose.
+pub bits-read : (s : List ℕ) (at : ℕ) (b : PoseBits) (next : ℕ) → fine b next ≡ pose_bits s (at + 16) → b ≡ pose_bits_of (bone_body s at)
+bits-read s at b next e = sym (pose-was s (at + 16) b next (sym e)) ∙ bits-are s at
+
 pub pose-read : (s : List ℕ) (at : ℕ) (b : PoseBits) (next : ℕ) → fine b next ≡ pose_bits s (at + 16) → pose_of b ≡ posed (bone_body s at)
-pose-read s at b next e = ap pose_of (sym (pose-was s (at + 16) b next (sym e))) ∙ pose-is s at
+pose-read s at b next e = ap pose_of (bits-read s at b next e)
 
 pub ruleset posed_is = (pose-read)

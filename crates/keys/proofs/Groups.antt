@@ -12,6 +12,7 @@ use lib.Ieee.{eq}
 use lib.ListN.{length, get_or, take, drop}
 use Rattle.layout.specs.Numbers.{float}
 use Rattle.records.specs.Curves.{curve_at}
+use Rattle.records.specs.Pose.{pose_of}
 use Rattle.records.proofs.CurvesWhole.{curves_bytes}
 use Rattle.records.specs.declared.pose.Pose.{Pose}
 use Rattle.clip.specs.Fields.{BoneBody}
@@ -94,11 +95,11 @@ module _ (s : List ℕ) (at : ℕ) where
   pose = posed body
 
   translation-is : eq pose.translation_x (float 0) && eq pose.translation_y (float 0) && eq pose.translation_z (float 0) ≡ plain_in bone_groups (bone_fields body) 0
-  unfolding plain_floats plain_float
+  unfolding plain_floats plain_float pose_of
   translation-is = all3 (eq pose.translation_x (float 0)) (eq pose.translation_y (float 0)) (eq pose.translation_z (float 0))
 
   orientation-is : eq pose.orientation_x (float 0) && eq pose.orientation_y (float 0) && eq pose.orientation_z (float 0) && eq pose.orientation_w (float one) ≡ plain_in bone_groups (bone_fields body) 1
-  unfolding plain_floats plain_float
+  unfolding plain_floats plain_float pose_of
   orientation-is = all4 (eq pose.orientation_x (float 0)) (eq pose.orientation_y (float 0)) (eq pose.orientation_z (float 0)) (eq pose.orientation_w (float one))
 
   abbrev plain_at : ℕ → Bool

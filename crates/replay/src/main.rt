@@ -1,31 +1,51 @@
-// Makes the checks that oracle/ wrote from the Rust's answers through the library's calls, and counts those that come out
-// otherwise. In the second file one number is changed, to show that this is seen.
+// Makes the checks that oracle/ wrote from the Rust's answers, of the readers and of the strip call, and counts those that come out
+// otherwise. In the second file of each, numbers are changed, to show that this is seen.
 #![tactic(auto)]
 
-mod calls;
-mod check;
+mod reader_calls;
+mod reader_check;
+mod strip_check;
 
 use std::io;
 use std::rt::Files;
 use vectors::file;
-use vectors::tally::Row;
+use vectors::tally::{Row, Tally};
 
-// Makes the checks of a file and says how they came out.
-fn replay<R: Files + Print + Eprint>(rt: &R, path: &[u8]) -> io::Result<()> {
-    let Some(tally) = file::replay(rt, path, calls::make)? else {
-        return Ok(());
-    };
-    println!(rt; "read: {}", tally.count(Row::Returned(0)))?;
-    for refusal in [1, 2, 19, 20] {
+// How the checks came out that refuse nothing, and those that give each of the refusals.
+fn say(rt: &impl Print, tally: Tally, accepted: &str, refusals: &[usize]) -> io::Result<()> {
+    println!(rt; "{accepted}: {}", tally.count(Row::Returned(0)))?;
+    for refusal in refusals {
         println!(rt;
             "refused {refusal}: {}",
-            tally.count(Row::Returned(refusal))
+            tally.count(Row::Returned(*refusal))
         )?;
     }
+    Ok(())
+}
+
+fn replay_readers<R: Files + Print + Eprint>(rt: &R, path: &str) -> io::Result<()> {
+    let Some(tally) = file::replay(rt, path, reader_calls::make)? else {
+        return Ok(());
+    };
+    say(rt, tally, "read", &[1, 2, 19, 20])?;
     println!(rt; "bytes: {}", tally.count(Row::Bytes))
 }
 
+fn replay_strips<R: Files + Print + Eprint>(rt: &R, path: &str) -> io::Result<()> {
+    let Some(tally) = file::replay(rt, path, strip_check::make)? else {
+        return Ok(());
+    };
+    say(
+        rt,
+        tally,
+        "accepted",
+        &[1, 2, 3, 4, 5, 6, 7, 8, 10, 11, 12, 13, 14, 15, 17, 18, 20],
+    )
+}
+
 fn main(rt: HostRuntime) -> io::Result<()> {
-    replay(&rt, b"vectors")?;
-    replay(&rt, b"broken")
+    replay_readers(&rt, "readers")?;
+    replay_readers(&rt, "readers_broken")?;
+    replay_strips(&rt, "strips")?;
+    replay_strips(&rt, "strips_broken")
 }

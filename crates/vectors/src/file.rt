@@ -79,26 +79,18 @@ fn every_check<F: Fn(Section<'_>, &mut Fields<'_>) -> Outcome>(
     Ok(tally)
 }
 
-// Makes the checks of a file and begins to tell how they came out. Nothing where it cannot be opened, which is told; a path is bytes,
-// and std opens no file whose name is not text.
+// Makes the checks of a file and begins to tell how they came out. Nothing where it cannot be opened, which is told.
 pub fn replay<R: Files + Print + Eprint, F: Fn(Section<'_>, &mut Fields<'_>) -> Outcome>(
     rt: &R,
-    path: &[u8],
+    path: &str,
     make: F,
 ) -> io::Result<Option<Tally>>
     requires { F.IsAlwaysCallable make }
 {
-    let name = match str::from_utf8(path) {
-        Ok(name) => name,
-        Err(error) => {
-            eprintln!(rt; "{error}")?;
-            return Ok(None);
-        }
-    };
-    let Some(mut file) = files::open(rt, name)? else {
+    let Some(mut file) = files::open(rt, path)? else {
         return Ok(None);
     };
     let tally = every_check(&mut file, make)?;
-    println!(rt; "{name}:\n{tally}")?;
+    println!(rt; "{path}:\n{tally}")?;
     Ok(Some(tally))
 }

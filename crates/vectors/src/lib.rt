@@ -1,4 +1,4 @@
-// Files of vectors, for the programs that replay them: sections, the checks behind each, the slices lent to a call, and counts.
+// Files of stored answers, for the program that replays them: sections, the checks behind each, the slices lent to a call, and counts.
 // oracle/README.md has the format.
 #![tactic(auto)]
 

@@ -5,6 +5,7 @@ pub mod clock;
 pub mod compare;
 pub mod expected;
 pub mod links;
+pub mod replay;
 pub mod seeds;
 pub mod strip_cases;
 pub mod strip_vectors;

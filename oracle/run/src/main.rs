@@ -2,8 +2,7 @@
 //! `oracle compare [CASES] [SEED]` holds the proved library against it.
 //! `oracle sample [CASES] [SEED]` does so with a sample of the calls, to take in more cases.
 //! `oracle bench [NAME]` times both on the same sections; `oracle profile SHAPE N [exact]` makes one strip call on one of them.
-//! `oracle vectors CRATE` writes a sample of the Rust's answers for the program that replays them, and
-//! `oracle strip-vectors CRATE` one of strip calls.
+//! `oracle vectors CRATE` writes a sample of the readers' answers in the Rust and one of strip calls for the program that replays them.
 //! `oracle seeds FOLDER [FILES] [SEED]` writes generated sections as files for the fuzzer.
 //! `oracle case SEED NUMBER` shows one case and what is expected of it.
 //! `oracle apart COUNT` runs the Rust alone on a section that ends behind this count of additional bones, and may abort.
@@ -18,7 +17,7 @@ use run::bench::Output;
 use run::compare::Extent;
 use run::expected::{Expected, Summary, expected};
 use run::tally::Tally;
-use run::{seeds, strip_vectors, vectors};
+use run::{replay, seeds};
 
 /// `oracle sample` makes one in so many of the calls besides the summary and the strip call.
 const SAMPLED: u64 = 16;
@@ -36,8 +35,7 @@ fn main() -> ExitCode {
             let output = if exact { Output::AsStrip } else { Output::AsSection };
             profile(shape, number(2).unwrap_or(10_000), output)
         }
-        (Some("vectors"), Some(folder)) => written(vectors::files().write(Path::new(folder))),
-        (Some("strip-vectors"), Some(folder)) => written(strip_vectors::files().write(Path::new(folder))),
+        (Some("vectors"), Some(folder)) => written(replay::files().write(Path::new(folder))),
         (Some("seeds"), Some(folder)) => {
             written(seeds::write(Path::new(folder), number(2).unwrap_or(2_000), number(3).unwrap_or(1)))
         }
@@ -46,7 +44,7 @@ fn main() -> ExitCode {
         _ => {
             eprintln!("oracle self [CASES] [SEED]\noracle compare [CASES] [SEED]\noracle sample [CASES] [SEED]");
             eprintln!("oracle bench [NAME]\noracle profile SHAPE N [exact]\noracle seeds FOLDER [FILES] [SEED]");
-            eprintln!("oracle vectors CRATE\noracle strip-vectors CRATE\noracle case SEED NUMBER\noracle apart COUNT");
+            eprintln!("oracle vectors CRATE\noracle case SEED NUMBER\noracle apart COUNT");
             ExitCode::FAILURE
         }
     }

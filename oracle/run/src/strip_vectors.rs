@@ -1,4 +1,4 @@
-//! A sample of strip calls, written for `crates/strip_replay`. The format is in this folder's README.
+//! A sample of strip calls, written for `crates/replay`. The format is in this folder's README.
 
 use std::collections::BTreeMap;
 use std::fmt::Write as _;
@@ -13,9 +13,11 @@ use crate::expected::expected;
 use crate::strip_cases;
 use crate::strips::{MOST_VALUES, ROOMS, lent};
 use crate::vector_file::{
-    Files, LONGEST_SECTION, ROOM_FOR_BYTES, ROOM_FOR_NUMBERS, ROOM_FOR_PLACES, Vector, Written, bytes, u16_bytes,
+    LONGEST_SECTION, ROOM_FOR_BYTES, ROOM_FOR_NUMBERS, ROOM_FOR_PLACES, Sample, Vector, Written, bytes, u16_bytes,
 };
 
+const FILE: &str = "strips";
+const BROKEN: &str = "strips_broken";
 const SEED: u64 = 1;
 const CASES: u64 = 40_000;
 /// The longest generated section that is taken where it is refused; more of the accepted ones are taken.
@@ -35,14 +37,14 @@ pub struct Call {
 /// What the call must give where the slices are long enough: 0 or the refusal's number, with its kind.
 type Outcome = (u8, Option<Kind>);
 
-pub fn files() -> Files {
+pub fn written() -> Sample {
     let sample = sample();
     let vectors: Vec<Vector<Call>> = sample.iter().map(|(_, vector)| vector.clone()).collect();
     let broken = broken(&vectors);
     let file = bytes(&vectors);
-    let stdout = said("vectors", &vectors) + &said("broken", &broken);
+    let stdout = said(FILE, &vectors) + &said(BROKEN, &broken);
     let told = told(&sample, file.len());
-    Files { vectors: file, broken: bytes(&broken), stdout, told }
+    Sample { data: [(FILE, file), (BROKEN, bytes(&broken))], stdout, told }
 }
 
 /// Sections by hand, then from each family some of each outcome, with and without bytes before them.

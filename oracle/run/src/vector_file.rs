@@ -1,37 +1,21 @@
-//! The files that `crates/vectors` reads: sections, each with its checks. The format is in this folder's README.
-
-use std::path::Path;
-use std::{fs, io};
+//! The files that `crates/replay` reads: sections, each with its checks. The format is in this folder's README.
 
 /// The longest section that is taken.
 pub const LONGEST_SECTION: usize = 1_400;
-/// What the programs have room for: a section, its checks, and the slices that they lend.
+/// What the program has room for: a section, its checks, and the slices that they lend.
 const ROOM_FOR_SECTION: usize = 4_096;
 const ROOM_FOR_CHECKS: usize = 65_536;
 pub const ROOM_FOR_PLACES: usize = 64;
 pub const ROOM_FOR_NUMBERS: usize = 64;
 pub const ROOM_FOR_BYTES: usize = 4_096;
 
-/// What a program that replays is given, and what it is to write.
-pub struct Files {
-    pub vectors: Vec<u8>,
-    /// Some of the sections, with numbers changed.
-    pub broken: Vec<u8>,
+/// A sample, as the program that replays it is given it, and what the program is to write of it.
+pub struct Sample {
+    /// The sections, and some of them with numbers changed, by the files' names.
+    pub data: [(&'static str, Vec<u8>); 2],
     pub stdout: String,
     /// What the sample holds, so that a lack is seen.
     pub told: String,
-}
-
-impl Files {
-    /// Writes `data/vectors`, `data/broken` and `stdout` below a crate's folder, and tells what was taken.
-    pub fn write(self, folder: &Path) -> io::Result<String> {
-        let data = folder.join("data");
-        fs::create_dir_all(&data)?;
-        fs::write(data.join("vectors"), self.vectors)?;
-        fs::write(data.join("broken"), self.broken)?;
-        fs::write(folder.join("stdout"), self.stdout)?;
-        Ok(self.told)
-    }
 }
 
 /// One section with its checks.

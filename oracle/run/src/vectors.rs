@@ -1,4 +1,4 @@
-//! A sample of the Rust's answers, written for `crates/replay`. The format is in this folder's README.
+//! A sample of the readers' answers in the Rust, written for `crates/replay`. The format is in this folder's README.
 
 use std::collections::{BTreeMap, BTreeSet};
 use std::fmt::Write as _;
@@ -9,20 +9,22 @@ use generate::{Case, Kind};
 
 use crate::compare::{each_check, lent};
 use crate::expected::{Expected, expected};
-use crate::vector_file::{Files, LONGEST_SECTION, ROOM_FOR_BYTES, ROOM_FOR_NUMBERS, Written, bytes, u16_bytes};
+use crate::vector_file::{LONGEST_SECTION, ROOM_FOR_BYTES, ROOM_FOR_NUMBERS, Sample, Written, bytes, u16_bytes};
 
+const FILE: &str = "readers";
+const BROKEN: &str = "readers_broken";
 const SEED: u64 = 1;
 const MOST_BYTES: usize = 290_000;
 
 type Vector = crate::vector_file::Vector<Check>;
 
-pub fn files() -> Files {
+pub fn written() -> Sample {
     let vectors = sample();
     let broken = [broken(&vectors)];
     let file = bytes(&vectors);
-    let stdout = said("vectors", &vectors, 0) + &said("broken", &broken, 1);
+    let stdout = said(FILE, &vectors, 0) + &said(BROKEN, &broken, 1);
     let told = told(&vectors, file.len());
-    Files { vectors: file, broken: bytes(&broken), stdout, told }
+    Sample { data: [(FILE, file), (BROKEN, bytes(&broken))], stdout, told }
 }
 
 /// Sections by hand, then from each family some of each kind and outcome.

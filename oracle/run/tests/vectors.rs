@@ -5,8 +5,7 @@ use std::path::Path;
 
 use answers::Kind;
 use run::strip_vectors::{outcomes, sample};
-use run::vector_file::Files;
-use run::{strip_cases, strip_vectors, vectors};
+use run::{replay, strip_cases};
 
 /// Each refusal that a program can meet, of bones and of morphs where both have it; 17 and 18 come with every section that
 /// has records, and with every accepted one.
@@ -31,13 +30,8 @@ fn by_hand() {
 /// What is stored is what is written now.
 #[test]
 fn stored() {
-    let crates = Path::new(env!("CARGO_MANIFEST_DIR")).join("../../crates");
-    let same = |name: &str, files: Files| {
-        let stored = |file: &str| fs::read(crates.join(name).join(file)).expect("a stored file");
-        assert!(stored("data/vectors") == files.vectors, "{name}: vectors");
-        assert!(stored("data/broken") == files.broken, "{name}: broken");
-        assert!(stored("stdout") == files.stdout.into_bytes(), "{name}: stdout");
-    };
-    same("replay", vectors::files());
-    same("strip_replay", strip_vectors::files());
+    let replayed = Path::new(env!("CARGO_MANIFEST_DIR")).join("../../crates/replay");
+    for (path, bytes) in replay::files().files {
+        assert!(fs::read(replayed.join(&path)).expect("a stored file") == bytes, "{path}");
+    }
 }

@@ -1,0 +1,34 @@
+-- Document 01, "Turned down, and by whose doing" (FORMAT, Refusals): a section for each refusal of a build that no marked case of "Sections
+-- by hand" meets, so that each is met by one but 9, which none meets.
+use Rattle.std.specs.Prelude.{ℕ, List, [], ◌∷◌, ◌++◌, pos, negsuc, replicate}
+use Rattle.cases.specs.Sections.{zeros, small, one, bone, additional_bone, linked}
+use Rattle.cases.specs.Table.{Case, gives_refusal}
+
+-- -1 as an i32; the f32 infinity.
+abbrev pub minus_one : List ℕ
+minus_one = replicate 4 255
+
+abbrev pub infinity : List ℕ
+infinity = 0 ∷ 0 ∷ 128 ∷ 127 ∷ []
+
+-- The bone linked to 1, and a record 1 of this frame behind it.
+abbrev pub of_frame : List ℕ → List ℕ
+of_frame frame = bone 1 one (small 1 ++ additional_bone (small 1) frame 0 0)
+
+-- One nameless bone whose translation begins with infinity; one nameless morph of infinite weight.
+abbrev pub infinite_translation : List ℕ
+infinite_translation = zeros 260 ++ 1 ∷ zeros 47 ++ zeros 28 ++ infinity ++ zeros 20 ++ one ++ zeros 66
+
+abbrev pub infinite_weight : List ℕ
+infinite_weight = zeros 264 ++ 1 ∷ zeros 47 ++ zeros 12 ++ infinity ++ zeros 34
+
+abbrev pub refusals : List Case
+refusals =
+    gives_refusal (bone 1 one (small 1 ++ additional_bone minus_one (small 1) 0 0)) 3 (pos 0 ∷ negsuc 0 ∷ [])
+    ∷ gives_refusal (bone 1 one (small 2 ++ additional_bone (small 1) (small 1) 0 0 ++ additional_bone (small 1) (small 2) 0 0)) 5 (pos 0 ∷ pos 1 ∷ [])
+    ∷ gives_refusal (linked 2 1 0 0) 6 (pos 0 ∷ pos 0 ∷ pos 2 ∷ [])
+    ∷ gives_refusal (of_frame minus_one) 10 (pos 0 ∷ pos 0 ∷ negsuc 0 ∷ [])
+    ∷ gives_refusal (of_frame (small 0)) 11 (pos 0 ∷ pos 0 ∷ pos 0 ∷ [])
+    ∷ gives_refusal infinite_translation 12 (pos 0 ∷ pos 0 ∷ [])
+    ∷ gives_refusal infinite_weight 14 (pos 0 ∷ pos 0 ∷ [])
+    ∷ []

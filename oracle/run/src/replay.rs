@@ -1,0 +1,35 @@
+//! What `crates/replay` is given and is to write: the sample of the readers' answers, then that of strip calls.
+
+use std::path::Path;
+use std::{fs, io};
+
+use crate::{strip_vectors, vectors};
+
+pub struct Files {
+    /// Each by its path from the crate's folder.
+    pub files: Vec<(String, Vec<u8>)>,
+    /// What the samples hold, so that a lack is seen.
+    told: String,
+}
+
+pub fn files() -> Files {
+    let (mut files, mut stdout, mut told) = (Vec::new(), String::new(), String::new());
+    for sample in [vectors::written(), strip_vectors::written()] {
+        files.extend(sample.data.map(|(name, bytes)| (format!("data/{name}"), bytes)));
+        stdout += &sample.stdout;
+        told += &sample.told;
+    }
+    files.push(("stdout".into(), stdout.into_bytes()));
+    Files { files, told }
+}
+
+impl Files {
+    /// Writes them below the crate's folder, and tells what was taken.
+    pub fn write(self, folder: &Path) -> io::Result<String> {
+        fs::create_dir_all(folder.join("data"))?;
+        for (path, bytes) in self.files {
+            fs::write(folder.join(path), bytes)?;
+        }
+        Ok(self.told)
+    }
+}

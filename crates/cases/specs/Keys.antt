@@ -1,13 +1,9 @@
 -- Document 01, "The strip", and of a pose "Turned down" and "Modules" (FORMAT, The strip and The build): the bytes of a key whose curves,
 -- translation, orientation or weight stand, and the edges of what is asked of a pose.
 use Rattle.std.specs.Prelude.{ℕ, List, [], ◌∷◌, ◌++◌, pos}
-use Rattle.cases.specs.Sections.{zeros, one, plain_curve}
+use Rattle.cases.specs.Sections.{zeros, one, plain_curve, posed_bone, weighted_morph}
 use Rattle.cases.specs.Table.{Case, gives_strip, gives_refusal}
 use Rattle.cases.specs.Refusals.{infinity}
-
--- One nameless bone of frame 0 in a section of 430 bytes, by its curves and its pose.
-abbrev pub posed_bone : List ℕ → List ℕ → List ℕ → List ℕ
-posed_bone curves translation orientation = zeros 260 ++ 1 ∷ zeros 47 ++ zeros 12 ++ curves ++ translation ++ orientation ++ zeros 66
 
 abbrev pub four_plain_curves : List ℕ
 four_plain_curves = plain_curve ++ plain_curve ++ plain_curve ++ plain_curve
@@ -32,10 +28,6 @@ high_curve = 200 ∷ 20 ∷ 107 ∷ 127 ∷ []
 abbrev pub clamped_curve : List ℕ
 clamped_curve = 127 ∷ 20 ∷ 107 ∷ 127 ∷ []
 
--- One nameless morph of weight 1.
-abbrev pub morph_of_weight_1 : List ℕ
-morph_of_weight_1 = zeros 264 ++ 1 ∷ zeros 47 ++ zeros 12 ++ one ++ zeros 34
-
 -- The strip of one bone and no morph, or of one morph and no bone, whose one key is of frame 0, by the key's map byte and fields.
 abbrev pub bone_strip : List ℕ → List ℕ
 bone_strip key = 1 ∷ 0 ∷ 0 ∷ 0 ∷ 1 ∷ 0 ∷ 0 ∷ 0 ∷ 0 ∷ 0 ∷ key
@@ -52,7 +44,7 @@ key_cases =
     ∷ gives_strip (posed_bone four_plain_curves (zeros 12) (two_to_minus_11 ++ zeros 12)) (bone_strip (2 ∷ two_to_minus_11 ++ zeros 12))
     ∷ gives_strip (posed_bone (high_curve ++ plain_curve ++ plain_curve ++ plain_curve) (zeros 12) plain_orientation) (bone_strip (4 ∷ clamped_curve ++ plain_curve ++ plain_curve))
     ∷ gives_strip (posed_bone (plain_curve ++ plain_curve ++ plain_curve ++ high_curve) (zeros 12) plain_orientation) (bone_strip (8 ∷ clamped_curve))
-    ∷ gives_strip morph_of_weight_1 (morph_strip (1 ∷ one))
+    ∷ gives_strip (weighted_morph one) (morph_strip (1 ∷ one))
     ∷ gives_refusal (posed_bone four_plain_curves (zeros 12) (two_to_minus_12 ++ two_to_minus_12 ++ zeros 8)) 13 (pos 0 ∷ pos 0 ∷ [])
     ∷ gives_refusal (posed_bone four_plain_curves (infinity ++ zeros 8) (zeros 16)) 12 (pos 0 ∷ pos 0 ∷ [])
     ∷ []

@@ -1,7 +1,7 @@
 -- Document 01, "Turned down, and by whose doing" (FORMAT, Refusals): a section for each refusal of a build that no marked case of "Sections
 -- by hand" meets, so that each is met by one but 9, which none meets.
 use Rattle.std.specs.Prelude.{ℕ, List, [], ◌∷◌, ◌++◌, pos, negsuc, replicate}
-use Rattle.cases.specs.Sections.{zeros, small, one, bone, additional_bone, linked}
+use Rattle.cases.specs.Sections.{zeros, small, one, bone, additional_bone, linked, posed_bone, weighted_morph}
 use Rattle.cases.specs.Table.{Case, gives_refusal}
 
 -- -1 as an i32; the f32 infinity.
@@ -17,10 +17,10 @@ of_frame frame = bone 1 one (small 1 ++ additional_bone (small 1) frame 0 0)
 
 -- One nameless bone whose translation begins with infinity; one nameless morph of infinite weight.
 abbrev pub infinite_translation : List ℕ
-infinite_translation = zeros 260 ++ 1 ∷ zeros 47 ++ zeros 28 ++ infinity ++ zeros 20 ++ one ++ zeros 66
+infinite_translation = posed_bone (zeros 16) (infinity ++ zeros 8) (zeros 12 ++ one)
 
 abbrev pub infinite_weight : List ℕ
-infinite_weight = zeros 264 ++ 1 ∷ zeros 47 ++ zeros 12 ++ infinity ++ zeros 34
+infinite_weight = weighted_morph infinity
 
 abbrev pub refusals : List Case
 refusals =

@@ -44,3 +44,10 @@ linked link index previous next = bone link one (small 1 ++ additional_bone (sma
 -- Two nameless bones that are plain, the first with a link.
 abbrev pub two_bones : ℕ → List ℕ
 two_bones link = zeros 260 ++ 2 ∷ zeros 48 ++ zeros 8 ++ small link ++ plain_bone one ++ zeros 12 ++ plain_bone one ++ zeros 95
+
+-- One nameless bone of frame 0 without additional records, by its curves and its pose; one nameless morph, by its weight.
+abbrev pub posed_bone : List ℕ → List ℕ → List ℕ → List ℕ
+posed_bone curves translation orientation = zeros 260 ++ 1 ∷ zeros 47 ++ zeros 12 ++ curves ++ translation ++ orientation ++ zeros 66
+
+abbrev pub weighted_morph : List ℕ → List ℕ
+weighted_morph weight = zeros 264 ++ 1 ∷ zeros 47 ++ zeros 12 ++ weight ++ zeros 34

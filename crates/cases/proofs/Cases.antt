@@ -1,5 +1,5 @@
 -- Every case of the tables is as document 01 says, by computation. Assumes nothing.
-use mathlib.Core.Path.{◌≡◌, refl}
+use mathlib.Core.Path.{refl}
 use lib.Ieee.{span, climb, size, odd, units, round, sum, add, mul, lt, eq, le, of_fields, of_bits}
 use Rattle.layout.specs.Walk.{item, string, times, count, items, bytes_at}
 use Rattle.layout.specs.Records as Table

@@ -1,7 +1,8 @@
 #!/usr/bin/env python3
-"""Instructions of one strip call, shape by shape, counted by valgrind: a table in Markdown.
+"""Instructions of one call, shape by shape, counted by valgrind: a table in Markdown.
 
-    instructions.py [RECORDS]       # additional records, 60000 if not given; and half as many
+    instructions.py [RECORDS]       # the strip call: additional records, 60000 if not given; and half as many
+    instructions.py assets          # the look-up in a list of references: `bench assets` has the sizes; and half of them
 
 Needs the oracle built with the library (README.md). With two cores, two counts are made at a time.
 """
@@ -14,6 +15,8 @@ from concurrent.futures import ThreadPoolExecutor
 from pathlib import Path
 
 ORACLE = Path(__file__).resolve().parent / "target/release/oracle"
+# What the names of shapes for the look-up begin with.
+ASSETS = "assets: "
 
 
 def shapes():
@@ -24,22 +27,49 @@ def shapes():
     return json.loads(f"[{quoted.group()}]")
 
 
-def instructions(shape, records):
+def counted(call, *arguments):
+    """What `oracle profile` tells, and the instructions of the call."""
     with tempfile.TemporaryDirectory() as folder:
-        command = ["valgrind", "--tool=callgrind", f"--callgrind-out-file={folder}/out", "--toggle-collect=limdroven_strip"]
-        run = subprocess.run([*command, ORACLE, "profile", shape, str(records)], capture_output=True, text=True, check=True)
-    return int(re.search(r"Collected : (\d+)", run.stderr).group(1))
+        command = ["valgrind", "--tool=callgrind", f"--callgrind-out-file={folder}/out", f"--toggle-collect={call}"]
+        run = subprocess.run([*command, ORACLE, "profile", *arguments], capture_output=True, text=True, check=True)
+    return run.stdout, int(re.search(r"Collected : (\d+)", run.stderr).group(1))
 
 
-def main():
-    records = int(sys.argv[1]) if len(sys.argv) > 1 else 60000
-    names = shapes()
-    with ThreadPoolExecutor(2) as pool:
-        counts = list(pool.map(lambda name: (instructions(name, records // 2), instructions(name, records)), names))
+def strip(shape, records):
+    return counted("limdroven_strip", shape, str(records))[1]
+
+
+def look_up(shape):
+    """The size, the bytes of path and list, and the instructions for the whole and for half of it."""
+    call = "limdroven_asset_reference_index_for_path"
+    told, whole = counted(call, shape)
+    n, length = map(int, re.match(r": (\d+), (\d+) bytes", told.removeprefix(shape)).groups())
+    return n, length, counted(call, shape, str(n // 2))[1], whole
+
+
+def strips(names, pool, records):
+    counts = list(pool.map(lambda name: (strip(name, records // 2), strip(name, records)), names))
     print(f"| shape | a record at {records:,} | {records // 2:,} to {records:,} |")
     print("| --- | --- | --- |")
     for name, (half, whole) in zip(names, counts):
         print(f"| {name} | {whole / records:,.0f} | {whole / half:.2f} |")
+
+
+def look_ups(names, pool):
+    print("| shape | n | instructions | a byte | half of n to n |")
+    print("| --- | --- | --- | --- | --- |")
+    for name, (n, length, half, whole) in zip(names, pool.map(look_up, names)):
+        print(f"| {name} | {n:,} | {whole:,} | {whole / length:.2f} | {whole / half:.2f} |")
+
+
+def main():
+    word = sys.argv[1] if len(sys.argv) > 1 else "60000"
+    names = shapes()
+    with ThreadPoolExecutor(2) as pool:
+        if word == "assets":
+            look_ups([name for name in names if name.startswith(ASSETS)], pool)
+        else:
+            strips([name for name in names if not name.startswith(ASSETS)], pool, int(word))
 
 
 main()

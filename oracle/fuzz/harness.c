@@ -1,10 +1,11 @@
-/* Each input is a header of 16 bytes and a section. Every call is made on exactly the bytes and places lent, and what it returns and leaves
-   is held against reference.h.
+/* Each input is a header of 16 bytes and a section, which is also taken as a path and a list. Every call is made on exactly the bytes and
+   places lent, and what it returns and leaves is held against reference.h.
 
    header: 0 start (from 240 on a huge one), 1 added to a huge start, 2 and 3 places of the work slices besides those needed, 4 bytes of the
    output besides those needed (2 to 4 signed), 5 places of `values`, 6 what the slices hold before, 7 bit 0 include_index, bit 1 slices with
    their forbidden page in front, bit 2 byte 4 counts from the section's length, bit 3 the strip's output directly behind the section, 8 and 9
-   number, 10 and 11 entry (from 65,528 on huge ones), 12 and 13 how many places an answer is short of. */
+   number, 10 and 11 entry (from 65,528 on huge ones), 12 and 13 how many places an answer is short of, 14 and 15 length of the path, at most
+   the section's. */
 #include <stdio.h>
 #include <stdlib.h>
 #include <string.h>
@@ -22,8 +23,7 @@ static const uint64_t HUGE_NUMBERS[16] = {
 const uint8_t *header, *copy;
 size_t length, start;
 const char *making;
-
-static uint8_t *section; /* lent alone */
+uint8_t *section;
 
 void hold(bool held, const char *what) {
     if (held) return;
@@ -36,7 +36,7 @@ void same_status(uint32_t status, const struct answer *expected) {
     hold(status == expected->status, "another status");
 }
 
-static uint64_t two_bytes(size_t place) {
+uint64_t two_bytes(size_t place) {
     return header[place] | (uint64_t)header[place + 1] << 8;
 }
 
@@ -63,6 +63,12 @@ static struct slice filled(struct slice slice) {
     uint8_t *bytes = slice.at;
     for (size_t i = 0; i < slice.size; i++) bytes[i] = before(&slice, i);
     return slice;
+}
+
+uint8_t *lend_copy(const uint8_t *bytes, size_t size) {
+    uint8_t *block = lend(size, front());
+    if (size > 0) memcpy(block, bytes, size);
+    return block;
 }
 
 struct slice lend_slice(size_t size, uint8_t more) {
@@ -92,12 +98,12 @@ int LLVMFuzzerTestOneInput(const uint8_t *data, size_t size) {
     copy = data + HEADER;
     length = size - HEADER;
     start = header[0] < 240 ? header[0] : HUGE_NUMBERS[header[0] - 240] + header[1];
-    section = lend(length, front());
-    if (length > 0) memcpy(section, copy, length);
+    section = lend_copy(copy, length);
     struct answer read = read_model(copy, length, start, &model);
     model_calls(&read, &model);
     track_calls();
     strip_calls(&read, &model);
+    path_calls();
     give_back(section);
     return 0;
 }

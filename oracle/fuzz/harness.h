@@ -8,13 +8,15 @@
 
 extern const uint8_t *header;
 extern const uint8_t *copy; /* the section as it stands in the input */
+extern uint8_t *section;    /* lent alone */
 extern size_t length, start;
 /* The call, for the message of a failure. */
 extern const char *making;
 
 void hold(bool held, const char *what);
 
-/* The header's number at this place, which may be a huge one. */
+/* The header's number at this place; `chosen` may be a huge one. */
+uint64_t two_bytes(size_t place);
 uint64_t chosen(size_t place);
 
 /* How many places are lent for an answer, by the header: any number from none to two more than needed. */
@@ -28,6 +30,9 @@ struct slice {
     uint8_t *block;
     uint8_t more; /* added to what its bytes hold before, so that slices differ */
 };
+
+/* These bytes, lent by themselves to be read. */
+uint8_t *lend_copy(const uint8_t *bytes, size_t size);
 
 /* So many bytes, by themselves or directly behind a section of their own. */
 struct slice lend_slice(size_t size, uint8_t more);
@@ -43,5 +48,6 @@ void same_status(uint32_t status, const struct answer *expected);
 void model_calls(const struct answer *read, const struct model *model);
 void track_calls(void);
 void strip_calls(const struct answer *read, const struct model *model);
+void path_calls(void);
 
 #endif

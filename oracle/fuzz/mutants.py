@@ -1,8 +1,9 @@
 #!/usr/bin/env python3
-"""mutants.py FOLDER CHANGES SEED: does the harness notice a wrong library?
+"""mutants.py FOLDER CHANGES SEED [WORD]: does the harness notice a wrong library?
 
 Takes the modules that modules.sh and build.sh left in FOLDER, changes one comparison, one sum or one constant of the library's code at a time, links
 the harness with it and runs the files of FOLDER/seeds and FOLDER/corpus. Prints each change that was not noticed; some change code that no section reaches.
+With a word, only functions whose name has it are changed.
 """
 import random
 import re
@@ -10,6 +11,7 @@ import subprocess
 import sys
 from pathlib import Path
 
+SOURCES = ["reading.c", "building.c", "finding.c", "lend.c", "readers.c", "strips.c", "paths.c", "harness.c", "replay.c"]
 PREDICATES = {
     "eq": "ne", "ne": "eq", "ult": "ule", "ule": "ult", "ugt": "uge", "uge": "ugt", "slt": "sle", "sle": "slt", "sgt": "sge", "sge": "sgt",
     "oeq": "one", "une": "oeq", "olt": "ole", "ole": "olt", "ogt": "oge", "oge": "ogt",
@@ -33,12 +35,17 @@ def changed(line):
     return None
 
 
+def function(text, at):
+    """The name of the function that the line is in."""
+    return re.search(r"@(.*?)[(]", next(line for line in reversed(text[:at]) if line.startswith("define")))[1]
+
+
 def run(words, **more):
     return subprocess.run(words, stdout=subprocess.DEVNULL, stderr=subprocess.DEVNULL, **more)
 
 
 def main():
-    folder, changes, seed = Path(sys.argv[1]).resolve(), int(sys.argv[2]), int(sys.argv[3])
+    folder, changes, seed, word = Path(sys.argv[1]).resolve(), int(sys.argv[2]), int(sys.argv[3]), "".join(sys.argv[4:])
     here = Path(__file__).resolve().parent
     clang = (folder / "clang").read_text().strip()
     archives = here.parent.parent / "target" / "staticlib"
@@ -47,9 +54,9 @@ def main():
     for name in ["exports", "strip_export"]:
         text = (folder / f"{name}.ll").read_text().replace("sanitize_address ", "").split("\n")
         texts[name] = text
-        places += [(name, at) for at, line in enumerate(text) if changed(line)]
+        places += [(name, at) for at, line in enumerate(text) if changed(line) and word in function(text, at)]
     random.Random(seed).shuffle(places)
-    sources = [str(here / name) for name in ["reading.c", "building.c", "lend.c", "readers.c", "strips.c", "harness.c", "replay.c"]]
+    sources = [str(here / name) for name in SOURCES]
     noticed = taken = 0
     for name, at in places:
         if taken == changes:
@@ -62,7 +69,7 @@ def main():
         if run([clang, *flags, "-c", str(mutant), "-o", str(folder / "mutant.o")]).returncode != 0:
             continue
         other = {"exports": "strip_export", "strip_export": "exports"}[name]
-        words = ["clang", "-std=c11", "-O1", "-ffp-contract=off", "-DHEAP", *sources, str(folder / "mutant.o")]
+        words = ["clang", "-std=c11", "-O1", "-ffp-contract=off", *sources, str(folder / "mutant.o")]
         run([*words, str(archives / f"lib{other}.a"), "-o", str(folder / "mutant")], check=True)
         taken += 1
         try:
@@ -71,8 +78,7 @@ def main():
             seen = True
         noticed += seen
         if not seen:
-            function = next(line for line in reversed(texts[name][:at]) if line.startswith("define"))
-            print(f"not noticed: {re.search(r'@(.*?)[(]', function)[1]}: {texts[name][at].strip()} -> {text[at].strip()}", flush=True)
+            print(f"not noticed: {function(text, at)}: {texts[name][at].strip()} -> {text[at].strip()}", flush=True)
     print(f"{noticed} of {taken} changes noticed, {len(places)} places, seed {seed}")
 
 

@@ -1,4 +1,4 @@
-/* The 31 calls that read, and what each must answer. */
+/* The 31 calls that read a section, and what each must answer. */
 #include "../../crates/exports/include/limdroven.h"
 #include "harness.h"
 

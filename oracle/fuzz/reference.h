@@ -1,5 +1,5 @@
-/* Document 01 written down once more, in C, slowly and for short sections: what the calls must answer. It shares nothing with the
-   library, and nothing with the Rust. */
+/* Document 01, and T-01 of document 02, written down once more, in C, slowly and for short sections: what the calls must answer. It
+   shares nothing with the library, and nothing with the Rust. */
 #ifndef REFERENCE_H
 #define REFERENCE_H
 
@@ -64,6 +64,9 @@ struct built {
     size_t length;
 };
 void build(const uint8_t *section, const struct model *model, struct built *built);
+
+/* T-01: the number of the reference, or 2^64 - 1 for none; or the refusal. */
+struct answer find_reference(const uint8_t *path, size_t path_length, const uint8_t *list, size_t list_length);
 
 /* An i32's pattern or a float's bits, as the calls answer both: a float is never made of them, so a NaN stays the one it is. */
 uint32_t u32_at(const uint8_t *section, size_t offset);

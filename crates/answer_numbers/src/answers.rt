@@ -1,11 +1,9 @@
 // An answer as numbers in a slice, or the refusal's number and its values.
 ghost use Rattle.std.specs.Prelude.{◌≡◌, ℕ, List};
-ghost use Rattle.binary.specs.Answers.{answer_read};
+ghost use Rattle.layout.specs.Walk.{Refusal};
+ghost use Rattle.binary.specs.Answers.{answer_by};
 ghost use Rattle.answer_numbers.specs.Put.{put};
-ghost use Rattle.answer_numbers.specs.Answers.{WritesAnswer};
-
-use crate::refusals;
-use binary::refusal::Refusal;
+ghost use Rattle.answer_numbers.specs.Answers.{Refuses, WritesAnswer};
 
 pub trait Numbers: Sized {
     ghost numbers: { Self → List ℕ };
@@ -24,15 +22,24 @@ pub trait Numbers: Sized {
     }
 }
 
+// Why a call gives no answer.
+pub trait RefusalNumbers: Copy {
+    ghost refusal_of: { Self → Refusal };
+
+    // The number is returned, the values are written.
+    fn refused(self, values: &mut [u64]) -> u32
+        ensures { Refuses (refusal_of self) values.old result values.new };
+}
+
 // 0 where there is an answer.
-pub fn say<T: Numbers>(answer: Result<T, Refusal>, values: &mut [u64]) -> u32
-    ensures { WritesAnswer T.numbers (answer_read answer) values.old result values.new }
+pub fn say<T: Numbers, R: RefusalNumbers>(answer: Result<T, R>, values: &mut [u64]) -> u32
+    ensures { WritesAnswer T.numbers (answer_by R.refusal_of answer) values.old result values.new }
 {
     match answer {
         Ok(x) => {
             x.put(values);
             0
         }
-        Err(why) => refusals::refused(values, why),
+        Err(why) => why.refused(values),
     }
 }

@@ -2,9 +2,12 @@
 ghost use Rattle.std.specs.Prelude.{◌≡◌};
 ghost use Rattle.binary.specs.Answers.{reading_refusal};
 ghost use Rattle.answer_numbers.specs.Put.{put};
-ghost use Rattle.answer_numbers.specs.Answers.{values, Refuses};
+ghost use Rattle.answer_numbers.specs.Answers.{values};
+ghost use Rattle.asset_references.specs.Answers.{asset_refusal};
 
+use crate::answers::RefusalNumbers;
 use crate::put;
+use asset_references::refusal::AssetRefusal;
 use binary::refusal::Refusal;
 
 #[tactic(auto, using(crate::proofs::Putting::puts))]
@@ -19,9 +22,21 @@ fn put_values(slice: &mut [u64], why: Refusal)
     }
 }
 
-pub fn refused(values: &mut [u64], why: Refusal) -> u32
-    ensures { Refuses (reading_refusal why) values.old result values.new }
-{
-    put_values(values, why);
-    u32::from(why.number())
+impl RefusalNumbers for Refusal {
+    ghost refusal_of = { reading_refusal };
+
+    fn refused(self, values: &mut [u64]) -> u32 {
+        put_values(values, self);
+        u32::from(self.number())
+    }
+}
+
+// None of these has a value.
+impl RefusalNumbers for AssetRefusal {
+    ghost refusal_of = { asset_refusal };
+
+    #[tactic(auto, using(crate::proofs::AssetRefusals::asset_refusals))]
+    fn refused(self, _values: &mut [u64]) -> u32 {
+        u32::from(self.number())
+    }
 }

@@ -21,7 +21,10 @@ abbrev pub skipped : Result ℕ Refusal → Walk (Unit {0})
 skipped (Ok next) = fine tt next
 skipped (Err why) = refused (reading_refusal why)
 
--- What a call answers: a value, or a refusal.
+-- What a call answers: a value, or a refusal, of whatever kind its refusals are.
+abbrev pub answer_by : {A R : Type 0} → (R → Walk.Refusal) → Result A R → Answer A
+answer_by refusal_of (Ok value) = answered value
+answer_by refusal_of (Err why) = declined (refusal_of why)
+
 abbrev pub answer_read : {A : Type 0} → Result A Refusal → Answer A
-answer_read (Ok value) = answered value
-answer_read (Err why) = declined (reading_refusal why)
+answer_read answer = answer_by reading_refusal answer

@@ -18,18 +18,22 @@ use Rattle.strip.specs.Keys.{little_endian, map_byte, present, key_bytes}
 use Rattle.strip.specs.Strip.{keys_bytes, track_bytes, tracks_bytes, strip_of}
 use Rattle.strip.specs.Work.{each, inserted, by_index, track_mark, first_work, second_work}
 use Rattle.strip.specs.Call.{strip_call}
+use Rattle.asset_references.specs.Normalize.{one_pass, last_userfile}
+use Rattle.asset_references.specs.References.{first_reference, references_within}
 use Rattle.cases.specs.Table.{Hold, table}
 use Rattle.cases.specs.Refusals.{refusals}
 use Rattle.cases.specs.Chains.{chains}
 use Rattle.cases.specs.Keys.{key_cases}
+use Rattle.cases.specs.AssetPaths.{HoldPaths, path_cases}
 
-pub cases : Hold table × Hold refusals × Hold chains × Hold key_cases
-unfolding item string times count items opening names counted_block counts u32s view scroll front keyframes keyframe_blocks states ending model_parts model_section sections_of summary_of model_summary first_met any number member total index_refusal scan record_of follow chain pose_of key_test squared_length translation_fails orientation_fails pose_asked weight_asked chain_of keys reached_before disconnected links_followed loose records_refusal track_refusal build_refusal bytes_at bone_body morph_body initial_at additional_at records_at bones morphs clip_refusal reached_records loose_records plain_float plain_floats plain_bytes little_endian map_byte present key_bytes keys_bytes track_bytes tracks_bytes strip_of each inserted by_index track_mark first_work second_work strip_call Table.size span climb size odd units round sum add mul lt eq le of_fields of_bits
+pub cases : Hold table × Hold refusals × Hold chains × Hold key_cases × HoldPaths path_cases
+unfolding item string times count items opening names counted_block counts u32s view scroll front keyframes keyframe_blocks states ending model_parts model_section sections_of summary_of model_summary first_met any number member total index_refusal scan record_of follow chain pose_of key_test squared_length translation_fails orientation_fails pose_asked weight_asked chain_of keys reached_before disconnected links_followed loose records_refusal track_refusal build_refusal bytes_at bone_body morph_body initial_at additional_at records_at bones morphs clip_refusal reached_records loose_records plain_float plain_floats plain_bytes little_endian map_byte present key_bytes keys_bytes track_bytes tracks_bytes strip_of each inserted by_index track_mark first_work second_work strip_call Table.size span climb size odd units round sum add mul lt eq le of_fields of_bits one_pass last_userfile first_reference references_within
 cases = (
   (refl, (refl, (refl, (refl, (refl, (refl, (refl, (refl, (refl, (refl, (refl, (refl, (refl, tt))))))))))))),
   (refl, (refl, (refl, (refl, (refl, (refl, (refl, tt))))))),
   (refl, (refl, (refl, (refl, tt)))),
   (refl, (refl, (refl, (refl, (refl, (refl, (refl, (refl, tt)))))))),
+  (refl, (refl, (refl, (refl, (refl, (refl, (refl, (refl, (refl, (refl, (refl, (refl, tt)))))))))))),
 )
 
 -- The marked cases of "Sections by hand".

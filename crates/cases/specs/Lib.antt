@@ -3,3 +3,4 @@ pub mod Keys
 pub mod Refusals
 pub mod Sections
 pub mod Table
+pub mod AssetPaths

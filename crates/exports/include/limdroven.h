@@ -21,6 +21,14 @@
    stay as they were. An i32 is written as its 32-bit pattern (below 2^32), a bool as 0 or 1, an f32 as the section's own 32
    bits, those of a NaN too, the index of an initial record, which has none, as 2^64 - 1.
 
+   A path looked up in a list of asset references is a call that answers a number, and has no section. It returns 0 or
+
+     16   more than 16,777,215 bytes are lent, as path or as list             no value
+     21   the list ends inside an entry                                       no value
+     22   a byte above 127 stands in the path or in the text of an entry      no value
+
+   in this order, each tested over all of the path and the list.
+
    Calls that answer bytes. They return the length of the part and write its bytes into `output` from place 0 on as far as
    it reaches; later places stay as they were. Where the call that answers numbers for the same arguments refuses, the part is empty.
 */
@@ -99,6 +107,14 @@ uint32_t limdroven_camera_keyframe(const uint8_t *section, size_t section_len, s
    color_offset, color_byte_length, direction_offset, direction_byte_length, selected_offset, offset, byte_length, payload_offset,
    payload_byte_length. */
 uint32_t limdroven_light_keyframe(const uint8_t *section, size_t section_len, size_t start, bool include_index, size_t number, uint64_t *values, size_t values_len);
+
+/* Which reference of a list a path is: the number, from 0, of the first model's entry whose text is the normalised path in any ASCII
+   letter case, or 2^64 - 1 where none is. A list is entries one behind the other: a kind byte (1 a model; entries of every other kind are
+   counted and passed over), a u16 length, its lower byte first, and that many bytes of text, which is already normalised. Of the path
+   backslashes become slashes, then each two slashes one, in one pass from the left; it is then cut to start at its last `userfile/`, in any
+   letter case, that opens it or follows a slash. The path is taken whole: a zero byte does not end it. `values` may overlap neither path
+   nor list. */
+uint32_t limdroven_asset_reference_index_for_path(const uint8_t *path, size_t path_len, const uint8_t *list, size_t list_len, uint64_t *values, size_t values_len);
 
 /* The model's name, its English name, its path; a bone's or a morph's name: the bytes as they stand. */
 size_t limdroven_name(const uint8_t *section, size_t section_len, size_t start, uint8_t *output, size_t output_len);

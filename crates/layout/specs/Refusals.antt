@@ -1,4 +1,5 @@
--- Document 01, "Turned down, and by whose doing" (FORMAT, Refusals): the number of each refusal, with the values that are told.
+-- Document 01, "Turned down, and by whose doing", and from 21 on document 02 (FORMAT, Refusals): the number of each refusal, with the
+-- values that are told.
 use Rattle.std.specs.Prelude.{ℕ}
 
 -- "a value does not fit in the bytes left, a start past the end included (place: offset of the first number, byte, string body,
@@ -62,3 +63,9 @@ absent = 19  -- "no record or name of that number; tested after reading"
 
 abbrev pub count_above_limit : ℕ
 count_above_limit = 20  -- "bone or morph count above 65,535, or their additional count above 65,534 (offset of the count); tested after 2"
+
+abbrev pub list_cut_off : ℕ
+list_cut_off = 21  -- T-01: "a list that ends inside an entry"
+
+abbrev pub not_ascii : ℕ
+not_ascii = 22  -- T-01: "and after that .. a byte above 127 in the path, which is lent whole, or in any entry's text"

@@ -1,7 +1,8 @@
-// Makes the checks that oracle/ wrote from the Rust's answers, of the readers and of the strip call, and counts those that come out
-// otherwise. In the second file of each, numbers are changed, to show that this is seen.
+// Makes the checks that oracle/ wrote from the Rust's answers, of the readers, of the strip call and of the look-up in a list of
+// references, and counts those that come out otherwise. In the second file of each, numbers are changed, to show that this is seen.
 #![tactic(auto)]
 
+mod asset_check;
 mod reader_calls;
 mod reader_check;
 mod strip_check;
@@ -43,9 +44,18 @@ fn replay_strips<R: Files + Print + Eprint>(rt: &R, path: &str) -> io::Result<()
     )
 }
 
+fn replay_assets<R: Files + Print + Eprint>(rt: &R, path: &str) -> io::Result<()> {
+    let Some(tally) = file::replay(rt, path, asset_check::make)? else {
+        return Ok(());
+    };
+    say(rt, tally, "answered", &[21, 22])
+}
+
 fn main(rt: HostRuntime) -> io::Result<()> {
     replay_readers(&rt, "readers")?;
     replay_readers(&rt, "readers_broken")?;
     replay_strips(&rt, "strips")?;
-    replay_strips(&rt, "strips_broken")
+    replay_strips(&rt, "strips_broken")?;
+    replay_assets(&rt, "assets")?;
+    replay_assets(&rt, "assets_broken")
 }

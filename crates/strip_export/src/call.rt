@@ -7,6 +7,7 @@ ghost use Rattle.binary.specs.Answers.{reading_refusal};
 ghost use Rattle.blocks.specs.Fault.{fault_of};
 
 use crate::values;
+use answer_numbers::answers::RefusalNumbers;
 use answer_numbers::put;
 use binary::refusal::Refusal;
 use blocks::fault::Fault;
@@ -15,7 +16,7 @@ use strip_call::answer::StripRefusal;
 fn not_read(numbers: &mut [u64], why: Refusal) -> u32
     ensures { Refuses (reading_refusal why) numbers.old result numbers.new }
 {
-    answer_numbers::refusals::refused(numbers, why)
+    why.refused(numbers)
 }
 
 fn not_built(numbers: &mut [u64], fault: Fault) -> u32

@@ -45,8 +45,8 @@ impl fmt::Display for Count {
 pub struct Tally {
     pub sections: u64,
     pub checks: u64,
-    // Refusals have numbers up to 20.
-    pub returned: [Count; 21],
+    // Refusals have numbers up to 22.
+    pub returned: [Count; 23],
     pub bytes: Count,
 }
 

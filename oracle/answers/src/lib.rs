@@ -1,5 +1,6 @@
 //! What the Rust answers, as flat data that another reader's answers can be held against.
 
+pub mod assets;
 pub mod clip;
 pub mod flat;
 pub mod model;

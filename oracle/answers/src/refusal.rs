@@ -1,4 +1,4 @@
-//! Refusals by document 01's numbers, and the Rust's messages read back as such.
+//! Refusals by the numbers of documents 01 and 02, and the Rust's messages read back as such.
 
 use std::fmt;
 
@@ -8,7 +8,7 @@ pub enum Kind {
     Morph,
 }
 
-/// A number of document 01 with the values that it names, in its order; i32 as they are. 12, 13 and 14 say no kind.
+/// A number with the values that its document names, in its order; i32 as they are. 12, 13 and 14 say no kind.
 #[derive(Debug, Clone, PartialEq, Eq)]
 pub struct Refusal {
     pub number: u8,

@@ -1,5 +1,9 @@
-//! Sections made from a seed: the same case from the same seed and number, everywhere.
+//! Sections, and paths with lists of references, made from a seed: the same case from the same seed and number, everywhere.
 
+pub mod asset_limits;
+pub mod asset_lists;
+pub mod asset_paths;
+pub mod assets;
 pub mod damage;
 pub mod large;
 pub mod prng;

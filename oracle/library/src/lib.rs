@@ -2,6 +2,7 @@
 
 use calls::{Arguments, Call, Other, Slices};
 use limdroven::raw;
+pub use limdroven::raw::asset_reference_index_for_path;
 
 /// Every answer is the library's; only the slices are this crate's.
 pub struct Library;

@@ -22,3 +22,27 @@ pub fn oracle_camera(section: &[u8], start: usize) -> Option<PmmDocumentTrackSum
 pub fn oracle_light(section: &[u8], start: usize) -> Option<PmmDocumentTrackSummary> {
     read_document_light_summary(&mut cursor(section, start))
 }
+
+/// `normalize_path`.
+pub fn oracle_normalize_path(path: &str) -> String {
+    normalize_path(path)
+}
+
+/// A reference with what `asset_reference_index_for_path` looks at: its kind, and its text as the normalised path.
+pub fn oracle_reference(kind: &'static str, text: &str) -> PmmAssetReference {
+    PmmAssetReference {
+        path: String::new(),
+        normalized_path: text.to_owned(),
+        file_name: String::new(),
+        extension: String::new(),
+        kind,
+        offset: 0,
+        offset_end: 0,
+        confidence: "",
+    }
+}
+
+/// `asset_reference_index_for_path`.
+pub fn oracle_asset_reference_index(references: &[PmmAssetReference], kind: &str, path: &str) -> Option<usize> {
+    asset_reference_index_for_path(references, kind, path)
+}

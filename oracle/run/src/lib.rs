@@ -1,5 +1,10 @@
 //! Cases run through the Rust, held against another implementation, and written down to be replayed.
 
+pub mod asset_bench;
+pub mod asset_cases;
+pub mod asset_tally;
+pub mod asset_vectors;
+pub mod assets;
 pub mod bench;
 pub mod clock;
 pub mod compare;

@@ -1,7 +1,8 @@
 //! `oracle self [CASES] [SEED]` runs the Rust on generated cases and counts what it met.
 //! `oracle compare [CASES] [SEED]` holds the proved library against it.
 //! `oracle sample [CASES] [SEED]` does so with a sample of the calls, to take in more cases.
-//! `oracle bench [NAME]` times both on the same sections; `oracle profile SHAPE N [exact]` makes one strip call on one of them.
+//! `oracle assets [CASES] [SEED]` does both with paths and lists of references: the Rust and document 02, and the library if it is there.
+//! `oracle bench [NAME]` times both on the same sections, paths and lists; `oracle profile SHAPE [N] [exact]` makes one call on one of them.
 //! `oracle vectors CRATE` writes a sample of the readers' answers in the Rust and one of strip calls for the program that replays them.
 //! `oracle seeds FOLDER [FILES] [SEED]` writes generated sections as files for the fuzzer.
 //! `oracle case SEED NUMBER` shows one case and what is expected of it.
@@ -29,11 +30,12 @@ fn main() -> ExitCode {
         (Some("self"), _) => own(number(1).unwrap_or(100_000), number(2).unwrap_or(1)),
         (Some("compare"), _) => compare(number(1).unwrap_or(100_000), number(2).unwrap_or(1), Extent::Whole),
         (Some("sample"), _) => compare(number(1).unwrap_or(100_000), number(2).unwrap_or(1), Extent::Sampled(SAMPLED)),
+        (Some("assets"), _) => assets(number(1).unwrap_or(1_000_000), number(2).unwrap_or(1)),
         (Some("bench"), only) => bench(only.map_or("", String::as_str)),
         (Some("profile"), Some(shape)) => {
             let exact = arguments.get(3).is_some_and(|word| word == "exact");
             let output = if exact { Output::AsStrip } else { Output::AsSection };
-            profile(shape, number(2).unwrap_or(10_000), output)
+            profile(shape, number(2), output)
         }
         (Some("vectors"), Some(folder)) => written(replay::files().write(Path::new(folder))),
         (Some("seeds"), Some(folder)) => {
@@ -43,7 +45,8 @@ fn main() -> ExitCode {
         (Some("apart"), _) => apart(number(1).unwrap_or(i32::MAX as u64)),
         _ => {
             eprintln!("oracle self [CASES] [SEED]\noracle compare [CASES] [SEED]\noracle sample [CASES] [SEED]");
-            eprintln!("oracle bench [NAME]\noracle profile SHAPE N [exact]\noracle seeds FOLDER [FILES] [SEED]");
+            eprintln!("oracle assets [CASES] [SEED]");
+            eprintln!("oracle bench [NAME]\noracle profile SHAPE [N] [exact]\noracle seeds FOLDER [FILES] [SEED]");
             eprintln!("oracle vectors CRATE\noracle case SEED NUMBER\noracle apart COUNT");
             ExitCode::FAILURE
         }
@@ -81,20 +84,50 @@ fn compare(cases: u64, seed: u64, extent: Extent) -> ExitCode {
 }
 
 #[cfg(feature = "library")]
+const LIBRARY: Option<run::assets::Call> = Some(library::asset_reference_index_for_path);
+#[cfg(not(feature = "library"))]
+const LIBRARY: Option<run::assets::Call> = None;
+
+fn assets(cases: u64, seed: u64) -> ExitCode {
+    println!("seed {seed}, {cases} cases");
+    let began = Instant::now();
+    let mut tally = run::asset_tally::Tally::default();
+    let mut comparison = run::assets::Comparison::default();
+    for number in 0..cases {
+        let case = generate::assets::case(seed, number);
+        let expected = run::assets::expected(&case);
+        tally.add(number, &case, &expected);
+        if let Some(call) = LIBRARY {
+            comparison.case(number, &case, &expected, call);
+        }
+    }
+    print!("{tally}");
+    if LIBRARY.is_some() {
+        print!("{comparison}");
+    }
+    println!("{:.1} s", began.elapsed().as_secs_f64());
+    if tally.contradictions() + comparison.differences() == 0 { ExitCode::SUCCESS } else { ExitCode::FAILURE }
+}
+
+#[cfg(feature = "library")]
 fn bench(only: &str) -> ExitCode {
     run::bench::bench(&library::Library, only);
+    run::asset_bench::bench(library::asset_reference_index_for_path, only);
     ExitCode::SUCCESS
 }
 
 #[cfg(feature = "library")]
-fn profile(shape: &str, n: u64, output: Output) -> ExitCode {
-    match run::bench::profile(&library::Library, shape, n as usize, output) {
+fn profile(shape: &str, n: Option<u64>, output: Output) -> ExitCode {
+    let n = n.map(|n| n as usize);
+    let look_up = run::asset_bench::profile(library::asset_reference_index_for_path, shape, n);
+    let strip = || run::bench::profile(&library::Library, shape, n.unwrap_or(10_000), output);
+    match look_up.map_or_else(strip, Ok) {
         Ok(told) => {
             println!("{told}");
             ExitCode::SUCCESS
         }
         Err(names) => {
-            eprintln!("the shapes: {names}");
+            eprintln!("the shapes: {names}, {}", run::asset_bench::names());
             ExitCode::FAILURE
         }
     }
@@ -111,7 +144,7 @@ fn bench(_: &str) -> ExitCode {
 }
 
 #[cfg(not(feature = "library"))]
-fn profile(_: &str, _: u64, _: Output) -> ExitCode {
+fn profile(_: &str, _: Option<u64>, _: Output) -> ExitCode {
     without_library()
 }
 

@@ -1,9 +1,9 @@
-//! What `crates/replay` is given and is to write: the sample of the readers' answers, then that of strip calls.
+//! What `crates/replay` is given and is to write: the sample of the readers' answers, then those of strip calls and of look-ups.
 
 use std::path::Path;
 use std::{fs, io};
 
-use crate::{strip_vectors, vectors};
+use crate::{asset_vectors, strip_vectors, vectors};
 
 pub struct Files {
     /// Each by its path from the crate's folder.
@@ -14,7 +14,7 @@ pub struct Files {
 
 pub fn files() -> Files {
     let (mut files, mut stdout, mut told) = (Vec::new(), String::new(), String::new());
-    for sample in [vectors::written(), strip_vectors::written()] {
+    for sample in [vectors::written(), strip_vectors::written(), asset_vectors::written()] {
         files.extend(sample.data.map(|(name, bytes)| (format!("data/{name}"), bytes)));
         stdout += &sample.stdout;
         told += &sample.told;

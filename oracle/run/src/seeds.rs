@@ -1,24 +1,31 @@
-//! Generated sections as files for the fuzzer, each with the header of `fuzz/harness.c` before it.
+//! Generated sections, and paths with lists, as files for the fuzzer, each with the header of `fuzz/harness.c` before it.
 
 use std::path::Path;
 use std::{fs, io};
 
 use generate::prng::Prng;
 use generate::sound::{Sizes, model};
-use generate::{Case, Kind, case};
+use generate::{Case, Kind, assets, case};
 
-/// Longer sections only slow the fuzzer down.
+use crate::asset_cases;
+
+/// Longer sections, and paths with longer lists, only slow the fuzzer down.
 const LONGEST: usize = 4_000;
+/// The bytes of a header.
+const HEADER: usize = 16;
 /// A start below this is written as it is; others are taken as the first of the harness's huge ones.
 const SMALL_START: u64 = 240;
 
 /// One case in so many is taken, so that truncations and damaged bytes of many sections and places are among them.
 const STEP: usize = 37;
 
+/// So many sections for one generated path with its list.
+const SECTIONS: u64 = 5;
+
 /// An answer is short of fewer places than these.
 const SHORT_OF: usize = 47;
 
-/// Writes so many sections, none of them longer than the fuzzer takes, and some that end close behind a payload.
+/// Writes so many sections, none of them longer than the fuzzer takes, some that end close behind a payload, and paths with lists.
 pub fn write(folder: &Path, files: u64, seed: u64) -> io::Result<String> {
     fs::create_dir_all(folder)?;
     let short = (0..)
@@ -38,11 +45,22 @@ pub fn write(folder: &Path, files: u64, seed: u64) -> io::Result<String> {
         header[12] = turn as u8 / 2 % 2;
         fs::write(folder.join(format!("{seed}-close-{turn}")), [&header, &case.section[..]].concat())?;
     }
-    Ok(format!("{files} files, {bytes} bytes of sections, and {} that end close behind a payload\n", close.len()))
+    let paths = paths(files / SECTIONS, seed);
+    for (turn, case) in paths.iter().enumerate() {
+        let mut header = [0; HEADER];
+        header[6] = turn as u8;
+        header[7] = turn as u8 & 2;
+        header[14..].copy_from_slice(&(case.path.len() as u16).to_le_bytes());
+        fs::write(folder.join(format!("{seed}-path-{turn}")), [&header[..], &case.path, &case.list].concat())?;
+    }
+    let (close, paths) = (close.len(), paths.len());
+    Ok(format!(
+        "{files} files, {bytes} bytes of sections, {close} that end close behind a payload, and {paths} paths with lists\n"
+    ))
 }
 
-fn header(case: &Case, turn: usize) -> [u8; 16] {
-    let mut header = [0; 16];
+fn header(case: &Case, turn: usize) -> [u8; HEADER] {
+    let mut header = [0; HEADER];
     header[0] = case.start.min(SMALL_START) as u8;
     // As long as counted, a byte longer or a byte shorter.
     header[4] = [0, 1, 255][turn / 16 % 3];
@@ -53,6 +71,13 @@ fn header(case: &Case, turn: usize) -> [u8; 16] {
     header[10] = (turn / 12 % 3) as u8;
     header[12] = (turn % SHORT_OF) as u8;
     header
+}
+
+/// Those by hand, and so many that are generated.
+fn paths(generated: u64, seed: u64) -> Vec<assets::Case> {
+    let short = (0..).map(|number| assets::case(seed, number)).filter(|case| case.length() <= LONGEST);
+    let by_hand = asset_cases::cases().into_iter().map(|(case, _)| case);
+    by_hand.chain(short.take(generated as usize)).collect()
 }
 
 /// Sections without tracks and parents, which end at most 31 bytes behind the start of a payload: into an output that lies

@@ -4,8 +4,10 @@ use std::fs;
 use std::path::Path;
 
 use answers::Kind;
+use generate::asset_lists::FAMILIES;
+use run::assets::{expected, shown};
 use run::strip_vectors::{outcomes, sample};
-use run::{replay, strip_cases};
+use run::{asset_cases, asset_vectors, replay, strip_cases};
 
 /// Each refusal that a program can meet, of bones and of morphs where both have it; 17 and 18 come with every section that
 /// has records, and with every accepted one.
@@ -24,6 +26,19 @@ fn each_refusal_has_several_strip_calls() {
 fn by_hand() {
     for (case, (outcome, _)) in strip_cases::cases().iter().zip(sample()) {
         assert_eq!(case.label, outcome.0.to_string(), "{:?} from {}", case.section, case.start);
+    }
+}
+
+/// The look-ups by hand answer what they are made for, and every family of lists that is short has several.
+#[test]
+fn look_ups() {
+    for (case, outcome) in asset_cases::cases() {
+        let answer = expected(&case).expect("no contradiction").map_err(|refusal| refusal.number);
+        assert_eq!(answer, outcome, "{}", shown(&case));
+    }
+    let families = asset_vectors::families(&asset_vectors::sample());
+    for (family, _) in FAMILIES {
+        assert!(families.get(family).is_some_and(|look_ups| *look_ups > 4), "{family}");
     }
 }
 

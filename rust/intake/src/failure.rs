@@ -29,6 +29,12 @@ pub enum Failure {
         file: String,
         malformed: Malformed,
     },
+    /// A line, counted from 1, that is no reference.
+    Line {
+        file: String,
+        line: usize,
+        words: &'static str,
+    },
     /// The file is a project where a section was asked for; or it is no PMMv2 project, or has no such model.
     Project {
         file: String,
@@ -52,7 +58,7 @@ impl Failure {
             Self::Usage(_) => 2,
             Self::Refused { .. } => 3,
             Self::File { .. } => FILE_STATUS,
-            Self::Malformed { .. } => 5,
+            Self::Malformed { .. } | Self::Line { .. } => 5,
             Self::Project { .. } => 6,
         }
     }
@@ -62,7 +68,7 @@ impl Failure {
             Self::Usage(_) => "usage",
             Self::Refused { .. } => "refused",
             Self::File { .. } => "file",
-            Self::Malformed { .. } => "malformed",
+            Self::Malformed { .. } | Self::Line { .. } => "malformed",
             Self::Project { .. } => "project",
         }
     }
@@ -85,6 +91,7 @@ impl Failure {
             Self::Malformed { file, malformed } => {
                 vec![("file", Json::text(file)), ("offset", Json::number(malformed.offset))]
             }
+            Self::Line { file, line, .. } => vec![("file", Json::text(file)), ("line", Json::number(*line))],
         }
     }
 }
@@ -99,6 +106,9 @@ impl fmt::Display for Failure {
             }
             Self::File { file, error } => write!(formatter, "{}: {error}", told(file)),
             Self::Malformed { file, malformed } => write!(formatter, "{}: {malformed}", told(file)),
+            Self::Line { file, line, words } => {
+                write!(formatter, "{}: malformed list at line {line}: {words}", told(file))
+            }
             Self::Project { file, words } => write!(formatter, "{}: {words}", told(file)),
         }
     }

@@ -6,28 +6,29 @@ intake: model sections of MikuMikuDance projects (PMM), and the strips made from
   intake list FILE             the keys of a section's strip, one line each
   intake strip FILE -o OUT     the strip of a section
   intake compare A B           whether two strips agree, or the first place where they do not
+  intake reference FILE LIST   which reference of a list has a section's path
   intake SUBCOMMAND --help     more of one of them
 
 FILE holds one model section at its start, or at --start N; with --model N it is a whole PMMv2 project, and its
 model N is taken, counted from 0. A project given with neither is not read as a section. A file called - is
-standard input or output. Sections may have up to 16,777,215 bytes.
+standard input or output. Sections and lists may have up to 16,777,215 bytes.
 
 Every subcommand takes --json, and then reports with one line of JSON: an object of result, status and what the
 subcommand's help names. A run that ends with status 2 gives result \"usage\", status, words; with 4 result \"file\"
 or with 6 result \"project\", both with status, file, words.
 
 Exit statuses:
-  0  done; the strips agree
-  1  the strips differ
+  0  done; the strips agree; the list has the path
+  1  the strips differ; the list does not have the path
   2  the arguments are not understood, or the strip would take the place of its section
-  3  the library refused the section; the number is that of document 01
+  3  the library refused the section, its path or the list; the number is that of document 01, or of 02 from 21 on
   4  a file cannot be read or written, or the report cannot be printed; if that is because its reader has closed
      the pipe, there is no message
-  5  a strip is malformed
+  5  a strip is malformed, or a line of a list
   6  a project, given without --model or --start; or not a PMMv2 project, or it has no model of that number
 
-The section is read and its strip built by the proved library. This program itself reads files, walks a
-project's sections, reads and compares stored strips, and prints.
+The section is read, its strip built and its path looked up by the proved library. This program itself reads
+files, walks a project's sections, reads and compares stored strips, reads lists from lines, and prints.
 ";
 
 pub const LIST: &str = "\
@@ -91,4 +92,33 @@ malformed: the offset and what is wrong are told, and nothing is compared.
                \"malformed\", status, file, offset, words
 
   intake compare ours.strip theirs.strip
+";
+
+pub const REFERENCE: &str = "\
+intake reference FILE LIST [--lines] [--start N | --model N] [--json]: which reference of a list has a section's path
+
+  reference N                the number, from 0, of the first model in LIST that has the path of the section
+  reference none             no model in LIST has it; the exit status is 1
+
+References of every kind are counted; those of kind 1 are models. The path of the section, up to its first zero
+byte, is normalised: its backslashes become slashes; then, in one pass, each `//` becomes `/`; then it is cut to
+start at its last `userfile/`, in any letter case, that opens it or follows a slash. The paths in LIST are taken as
+they stand. Upper and lower case are alike. A section or a list that is refused, also for a byte above 127 in a
+path, is told on standard error, and the exit status is 3.
+
+  FILE         a file that holds the section; - for standard input
+  LIST         a file of at most 16,777,215 bytes that holds, for each reference, its kind in a byte, the length of
+               its path in two bytes, the lower one first, and its path; - for standard input, if FILE is not
+  --lines      LIST is text, one reference a line: its kind as a number from 0 to 255, of at most three digits; one
+               space; and its path, which may be empty, up to the end of the line. A line ends with \\n, and a \\r
+               before it is dropped. A line that is not so is told with its number, from 1; the exit status is 5.
+               The limit is that of the bytes which LIST would have without --lines
+  --start N    the section begins at this offset of FILE (0 if not given, and then FILE must not be a project);
+               FILE has at most 16,777,215 bytes in all
+  --model N    FILE is a PMMv2 project; its model N, from 0, whose section has at most 16,777,215 bytes
+  --json       one object: result \"reference\", status, reference (null for none), path (the section's own, as it
+               stands); or result \"refused\", status, file, model, number, kind, values, words; or result
+               \"malformed\", status, file, line, words
+
+  intake reference project.pmm references --lines --model 0
 ";

@@ -1,5 +1,6 @@
 //! The command line over the proved library. What is done here, outside the proofs: arguments and files, the walk over a
-//! project's model sections, the reading and comparing of stored strips, and what is printed.
+//! project's model sections, the reading and comparing of stored strips, lists of references read from lines, and what is
+//! printed.
 
 #![forbid(unsafe_code)]
 
@@ -13,6 +14,8 @@ mod list;
 mod options;
 mod output;
 mod project;
+mod reference;
+mod references;
 mod report;
 mod same;
 mod stored;
@@ -43,6 +46,7 @@ fn run(options: &Options) -> u8 {
         Command::List(section) => (list::list(section), Stream::Output),
         Command::Strip(section, output) => (strip::strip(section, output), Stream::beside(output)),
         Command::Compare(first, second) => (compare::compare(first, second), Stream::Output),
+        Command::Reference(section, references) => (reference::reference(section, references), Stream::Output),
     };
     report.say(options.json, stream)
 }

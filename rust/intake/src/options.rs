@@ -23,6 +23,8 @@ pub enum Command {
     /// The section, and where the strip goes.
     Strip(Section, OsString),
     Compare(OsString, OsString),
+    /// The section whose path is looked up, and where.
+    Reference(Section, References),
 }
 
 /// A model section in a file.
@@ -42,6 +44,14 @@ pub enum At {
     Model(usize),
 }
 
+/// A list of references in a file.
+#[derive(Debug, PartialEq, Eq)]
+pub struct References {
+    pub file: OsString,
+    /// Whether it is text, one reference a line, or the bytes that the library takes.
+    pub lines: bool,
+}
+
 /// What stood on the command line behind the subcommand.
 #[derive(Debug, Default)]
 struct Given {
@@ -49,6 +59,7 @@ struct Given {
     start: Option<OsString>,
     model: Option<OsString>,
     output: Option<OsString>,
+    lines: bool,
     json: bool,
     help: bool,
 }
@@ -76,20 +87,24 @@ pub fn parse(arguments: &[OsString]) -> Result<Asked, String> {
         "list" => help::LIST,
         "strip" => help::STRIP,
         "compare" => help::COMPARE,
+        "reference" => help::REFERENCE,
         _ => return Err(format!("no subcommand is called {}", arguments[0].to_string_lossy())),
     };
     let given = given(rest)?;
     if given.help {
         return Ok(Asked::Help(help));
     }
+    if let Some(option) = not_taken(subcommand, &given) {
+        return Err(format!("{subcommand} takes no {option}"));
+    }
     let json = given.json;
     let command = match subcommand {
         "compare" => compare(given)?,
+        "reference" => reference(given)?,
         "strip" => {
             let output = given.output.clone().ok_or("strip: -o OUT is missing")?;
             Command::Strip(section(subcommand, given)?, output)
         }
-        _ if given.output.is_some() => return Err("list takes no -o".into()),
         _ => Command::List(section(subcommand, given)?),
     };
     Ok(Asked::Run(Options { command, json }))
@@ -106,6 +121,10 @@ fn given(arguments: &[OsString]) -> Result<Given, String> {
             }
             Some("--json") => {
                 given.json = true;
+                continue;
+            }
+            Some("--lines") => {
+                given.lines = true;
                 continue;
             }
             Some("--help" | "-h") => {
@@ -136,31 +155,58 @@ fn is_option(argument: &OsStr) -> bool {
     argument != "-" && argument.as_encoded_bytes().starts_with(b"-")
 }
 
-fn section(subcommand: &str, given: Given) -> Result<Section, String> {
-    let at = match (given.start, given.model) {
-        (Some(_), Some(_)) => return Err("--start and --model exclude each other".into()),
-        (_, Some(model)) => At::Model(number("--model", &model)?),
-        (Some(start), None) => At::Start(number("--start", &start)?),
-        (None, None) => At::Front,
+/// An option that others take and this one does not.
+fn not_taken(subcommand: &str, given: &Given) -> Option<&'static str> {
+    let taken: &[&str] = match subcommand {
+        "list" => &["--start", "--model"],
+        "strip" => &["--start", "--model", "-o"],
+        "reference" => &["--start", "--model", "--lines"],
+        _ => &[],
     };
-    let [file] = <[_; 1]>::try_from(given.files).map_err(|files| amount(subcommand, "one file", files.len()))?;
+    let options = [
+        ("--start", given.start.is_some()),
+        ("--model", given.model.is_some()),
+        ("-o", given.output.is_some()),
+        ("--lines", given.lines),
+    ];
+    options.into_iter().find(|(option, is_given)| *is_given && !taken.contains(option)).map(|(option, _)| option)
+}
+
+fn section(subcommand: &str, given: Given) -> Result<Section, String> {
+    let at = at(&given)?;
+    let [file] = files(subcommand, "one file", given)?;
     Ok(Section { file, at })
 }
 
+fn at(given: &Given) -> Result<At, String> {
+    Ok(match (&given.start, &given.model) {
+        (Some(_), Some(_)) => return Err("--start and --model exclude each other".into()),
+        (_, Some(model)) => At::Model(number("--model", model)?),
+        (Some(start), None) => At::Start(number("--start", start)?),
+        (None, None) => At::Front,
+    })
+}
+
 fn compare(given: Given) -> Result<Command, String> {
-    if given.start.is_some() || given.model.is_some() || given.output.is_some() {
-        return Err("compare takes no --start, --model or -o".into());
-    }
-    let [first, second] =
-        <[_; 2]>::try_from(given.files).map_err(|files| amount("compare", "two strips", files.len()))?;
+    let [first, second] = files("compare", "two strips", given)?;
     if first == "-" && second == "-" {
         return Err("only one of the two strips can be standard input".into());
     }
     Ok(Command::Compare(first, second))
 }
 
-fn amount(subcommand: &str, wanted: &str, found: usize) -> String {
-    format!("{subcommand} takes {wanted}, not {found}")
+fn reference(given: Given) -> Result<Command, String> {
+    let (at, lines) = (at(&given)?, given.lines);
+    let [file, list] = files("reference", "two files", given)?;
+    if file == "-" && list == "-" {
+        return Err("only one of the section and the list can be standard input".into());
+    }
+    Ok(Command::Reference(Section { file, at }, References { file: list, lines }))
+}
+
+fn files<const N: usize>(subcommand: &str, wanted: &str, given: Given) -> Result<[OsString; N], String> {
+    let files = <[_; N]>::try_from(given.files);
+    files.map_err(|files| format!("{subcommand} takes {wanted}, not {}", files.len()))
 }
 
 fn number(option: &str, text: &OsStr) -> Result<usize, String> {

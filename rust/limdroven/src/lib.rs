@@ -1,6 +1,6 @@
-//! The proved readers of PMM sections and the strip call, as safe Rust over the static libraries `exports` and
-//! `strip_export`. Every section, start, number and slice is taken, and each call gives its answer or a [`Refusal`] of
-//! document 01.
+//! The proved readers of PMM sections, the strip call and the look-up of a model's path among asset references, as safe
+//! Rust over the static libraries `exports` and `strip_export`. Every section, start, number and slice is taken, and each
+//! call gives its answer or a [`Refusal`] of documents 01 and 02.
 //!
 //! A section is lent as the bytes that hold it and the offset `start` at which it begins; all offsets count from the start
 //! of these bytes. Records, states and names are asked for by number, from 0. A float has the section's own bits, also if
@@ -14,11 +14,15 @@
 //! # Ok::<(), limdroven::Refusal>(())
 //! ```
 //!
-//! Outside the proofs: that the numbers which the library writes are read into structs here in the header's order, and
-//! the slices that are allocated here.
+//! [`asset_reference_index_for_path`] takes no section but a path, such as [`path`] hands back, and a list of references,
+//! which [`AssetList`] makes.
+//!
+//! Outside the proofs: that the numbers which the library writes are read into structs here in the header's order, the
+//! slices that are allocated here, and how a list is made from kinds and paths.
 
 #![deny(unsafe_code, missing_debug_implementations)]
 
+mod asset_list;
 mod keyframes;
 mod numbers;
 #[allow(unsafe_code)]
@@ -30,6 +34,7 @@ mod summary;
 mod texts;
 mod track;
 
+pub use asset_list::*;
 pub use keyframes::*;
 pub use refusal::{Kind, Refusal};
 pub use states::*;
@@ -38,5 +43,5 @@ pub use summary::*;
 pub use texts::*;
 pub use track::*;
 
-/// More bytes than these are refused with 16.
+/// More bytes than these, lent with a section, as a path or as a list of references, are refused with 16.
 pub const MOST_BYTES: usize = 16_777_215;

@@ -32,6 +32,8 @@ single! {
     bool: number => number != 0;
     // An initial record has no index.
     Option<i32>: number => (number != u64::MAX).then_some(number as u32 as i32);
+    // No reference may have been found.
+    Option<usize>: number => (number != u64::MAX).then_some(number as usize);
 }
 
 impl<T: Numbers, const N: usize> Numbers for [T; N] {
@@ -127,5 +129,6 @@ mod tests {
         assert_eq!(CameraKeyframeSummary::COUNT, 32);
         assert_eq!(LightKeyframeSummary::COUNT, 20);
         assert_eq!(Built::COUNT, 3);
+        assert_eq!(<Option<usize>>::COUNT, 1);
     }
 }

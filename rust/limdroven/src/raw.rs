@@ -61,6 +61,32 @@ declared! {
 }
 
 unsafe extern "C" {
+    fn limdroven_asset_reference_index_for_path(
+        path: *const u8,
+        path_length: usize,
+        list: *const u8,
+        list_length: usize,
+        values: *mut u64,
+        values_length: usize,
+    ) -> u32;
+}
+
+pub fn asset_reference_index_for_path(path: &[u8], list: &[u8], values: &mut [u64]) -> u32 {
+    // SAFETY: the pointers are those of slices with these lengths, which live through the call and, as the values are
+    // borrowed mutably, do not overlap them; the library reads and writes nothing outside them.
+    unsafe {
+        limdroven_asset_reference_index_for_path(
+            path.as_ptr(),
+            path.len(),
+            list.as_ptr(),
+            list.len(),
+            values.as_mut_ptr(),
+            values.len(),
+        )
+    }
+}
+
+unsafe extern "C" {
     fn limdroven_strip(
         section: *const u8,
         section_length: usize,

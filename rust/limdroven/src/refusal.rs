@@ -1,4 +1,4 @@
-//! Why a call gives no result: document 01, "Turned down, and by whose doing".
+//! Why a call gives no result: document 01, "Turned down, and by whose doing"; from 21 on document 02.
 
 use std::fmt;
 
@@ -36,7 +36,7 @@ macro_rules! refusals {
         pub enum Refusal { $($(#[$about])* $name $({ $($field: $type),* })?,)* }
 
         impl Refusal {
-            /// Document 01's number.
+            /// Document 01's number, or document 02's.
             pub fn number(&self) -> u8 {
                 match self { $(Self::$name { .. } => $number,)* }
             }
@@ -101,7 +101,7 @@ refusals! {
     14 InvalidWeight { track: usize, frame: i32 }
     /// Records that no chain reaches have a nonzero link.
     15 Disconnected { kind: Kind, count: usize }
-    /// More bytes are lent than [`MOST_BYTES`](crate::MOST_BYTES).
+    /// More bytes than [`MOST_BYTES`](crate::MOST_BYTES) are lent with a section, as a path or as a list of references.
     16 TooLong
     /// A work slice has too few places.
     17 WorkTooShort { need: usize }
@@ -111,6 +111,10 @@ refusals! {
     19 Absent
     /// A count is above its limit.
     20 CountAboveLimit { offset: usize }
+    /// A list of references ends inside an entry.
+    21 ListCutOff
+    /// A byte above 127 stands in the path, or in the text of a reference of any kind.
+    22 NotAscii
 }
 
 impl Refusal {
@@ -182,6 +186,8 @@ impl fmt::Display for Refusal {
             Self::OutputTooShort { need } => write!(formatter, "the output is shorter than the strip's {need} bytes"),
             Self::Absent => write!(formatter, "there is no record, name, state or entry of that number"),
             Self::CountAboveLimit { offset } => write!(formatter, "the count at offset {offset} is above its limit"),
+            Self::ListCutOff => write!(formatter, "the list of references ends inside an entry"),
+            Self::NotAscii => write!(formatter, "a byte above 127 stands in the path or in a reference of the list"),
         }
     }
 }

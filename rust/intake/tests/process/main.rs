@@ -10,6 +10,7 @@ mod malformed;
 mod output;
 mod printed;
 mod project;
+mod reference;
 #[path = "../../../limdroven/tests/calls/sections.rs"]
 mod sections;
 mod strip;

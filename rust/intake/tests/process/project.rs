@@ -7,7 +7,7 @@ use crate::json;
 use crate::sections::{bones, morphs, section};
 
 /// The header with its number of models, and their sections.
-fn project(version: &str, models: &[Vec<u8>]) -> Vec<u8> {
+pub fn project(version: &str, models: &[Vec<u8>]) -> Vec<u8> {
     let mut out = format!("Polygon Movie maker {version}").into_bytes();
     out.resize(30, 0);
     out.extend([1920_i32, 1080, 480].map(i32::to_le_bytes).as_flattened());

@@ -31,8 +31,23 @@ fn arguments() {
     not_understood(&["strip", "-o", "b"], "strip takes one file, not 0");
     not_understood(&["compare", "a"], "compare takes two strips, not 1");
     not_understood(&["compare", "a", "b", "c"], "compare takes two strips, not 3");
-    not_understood(&["compare", "a", "b", "--start", "1"], "compare takes no --start, --model or -o");
+    for (option, arguments) in
+        [("--start", &["--start", "1"][..]), ("--model", &["--model", "1"]), ("-o", &["-o", "c"])]
+    {
+        not_understood(&[&["compare", "a", "b"], arguments].concat(), &format!("compare takes no {option}"));
+    }
     not_understood(&["compare", "-", "-"], "only one of the two strips can be standard input");
+    for arguments in [&["list", "a"][..], &["strip", "a", "-o", "b"], &["compare", "a", "b"]] {
+        let words = format!("{} takes no --lines", arguments[0]);
+        not_understood(&[arguments, &["--lines"]].concat(), &words);
+    }
+    not_understood(&["reference"], "reference takes two files, not 0");
+    not_understood(&["reference", "a", "--lines"], "reference takes two files, not 1");
+    not_understood(&["reference", "a", "b", "c"], "reference takes two files, not 3");
+    not_understood(&["reference", "a", "b", "-o", "c"], "reference takes no -o");
+    not_understood(&["reference", "a", "b", "--start", "x"], "--start x is no number from 0 on");
+    not_understood(&["reference", "a", "b", "--start", "1", "--model", "1"], "--start and --model exclude each other");
+    not_understood(&["reference", "-", "-"], "only one of the section and the list can be standard input");
     for arguments in [&["strip", "a", "-o"][..], &["strip", "a", "-o", "--"], &["strip", "-o", "-h", "a"]] {
         let last = intake(arguments);
         assert_eq!((last.status, last.output.len()), (2, 0), "{arguments:?}");
@@ -71,14 +86,18 @@ fn after_two_dashes() {
 
 #[test]
 fn help() {
-    let texts =
-        [&["--help"][..], &["list", "--help"], &["strip", "-h"], &["compare", "a", "--help"]].map(|arguments| {
-            let ran = intake(arguments);
-            assert_eq!((ran.status, ran.error.as_str()), (0, ""));
-            ran.text().to_owned()
-        });
-    let [program, list, strip, compare] = &texts;
-    for status in ["0  done", "1  the strips differ", "2  ", "3  ", "4  ", "5  ", "6  "] {
+    let asked =
+        [&["--help"][..], &["list", "--help"], &["strip", "-h"], &["compare", "a", "--help"], &["reference", "--help"]];
+    let texts = asked.map(|arguments| {
+        let ran = intake(arguments);
+        assert_eq!((ran.status, ran.error.as_str()), (0, ""));
+        ran.text().to_owned()
+    });
+    let [program, list, strip, compare, reference] = &texts;
+    for subcommand in ["list FILE", "strip FILE", "compare A B", "reference FILE LIST"] {
+        assert!(program.contains(&format!("\n  intake {subcommand} ")), "{subcommand}");
+    }
+    for status in ["0  done", "1  the strips differ; the list does not", "2  ", "3  ", "4  ", "5  ", "6  "] {
         assert!(program.contains(&format!("\n  {status}")), "{status}");
     }
     for result in ["usage", "file", "project"] {
@@ -87,6 +106,7 @@ fn help() {
     assert!(list.starts_with("intake list FILE [--start N | --model N] [--json]"));
     assert!(strip.starts_with("intake strip FILE -o OUT [--start N | --model N] [--json]"));
     assert!(compare.starts_with("intake compare A B [--json]"));
+    assert!(reference.starts_with("intake reference FILE LIST [--lines] [--start N | --model N] [--json]"));
     assert!(texts.iter().flat_map(|text| text.lines()).all(|line| line.len() <= 120));
 }
 

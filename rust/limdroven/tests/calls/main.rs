@@ -1,5 +1,6 @@
-//! The safe calls, held against document 01 and against described sections.
+//! The safe calls, held against documents 01 and 02 and against described sections.
 
+mod asset_list;
 mod by_hand;
 mod described;
 mod edges;

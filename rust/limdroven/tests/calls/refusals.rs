@@ -1,9 +1,10 @@
-//! Every refusal that a small section can meet, and 16: number, kind, values and words.
+//! Every refusal that a small section can meet, 16, and those of a path and a list: number, kind, values and words.
 
 use crate::sections::{bones, morphs, plain_bone, plain_morph, section, tracks};
 use generate::section::{Bone, Morph, Tracks};
 use limdroven::{
-    Kind, MOST_BYTES, Refusal, bone_keyframe, camera_summary, light_summary, model_summary, strip, strip_into,
+    Kind, MOST_BYTES, Refusal, asset_reference_index_for_path, bone_keyframe, camera_summary, light_summary,
+    model_summary, strip, strip_into,
 };
 
 const LINKED: [i32; 4] = [0, 0, 0, 1];
@@ -59,6 +60,18 @@ fn too_long() {
     section.push(0);
     tells(of_strip(&section), 16, None, &[], "more than 16777215 bytes");
     assert_eq!(model_summary(&section, usize::MAX), Err(Refusal::TooLong));
+}
+
+/// Of a path and a list of references.
+#[test]
+fn references() {
+    let of = |path: &[u8], list: &[u8]| asset_reference_index_for_path(path, list).expect_err("refused");
+    tells(of(&vec![0; MOST_BYTES + 1], &[]), 16, None, &[], "more than 16777215 bytes");
+    tells(of(&[], &vec![0; MOST_BYTES + 1]), 16, None, &[], "more than 16777215 bytes");
+    tells(of(&[], &[1]), 21, None, &[], "the list of references ends inside an entry");
+    let words = "a byte above 127 stands in the path or in a reference of the list";
+    tells(of(&[128], &[]), 22, None, &[], words);
+    tells(of(&[], &[0, 1, 0, 128]), 22, None, &[], words);
 }
 
 #[test]

@@ -1,7 +1,8 @@
-//! The strip call in a thread with little stack, on each shape of section that is measured.
+//! Calls in a thread with little stack: the strip call on each shape of section that is measured, and the longest paths
+//! and lists looked up.
 
 use generate::shapes::{ACCEPTED, HOSTILE};
-use limdroven::raw;
+use limdroven::{MODEL, MOST_BYTES, raw};
 
 const RECORDS: usize = 20_000;
 
@@ -19,4 +20,14 @@ fn strips_in_sixteen_kibibytes() {
         let number = called.expect("a thread").join().expect("an answer");
         assert!(number == 0 || (3..=15).contains(&number), "{}: {number}", shape.name);
     }
+}
+
+#[test]
+fn paths_in_sixteen_kibibytes() {
+    let (slashes, models) = (vec![b'\\'; MOST_BYTES], [MODEL, 0, 0].repeat(MOST_BYTES / 3));
+    let called = std::thread::Builder::new().stack_size(STACK).spawn(move || {
+        let mut values = [0];
+        (raw::asset_reference_index_for_path(&slashes, &models, &mut values), values)
+    });
+    assert_eq!(called.expect("a thread").join().expect("an answer"), (0, [u64::MAX]));
 }

@@ -31,7 +31,7 @@ fn split_first(path: &[u8]) -> Option<(u8, &[u8])>
     Some((b'/', &path[2..]))
 }
 
-// What is left of a path behind a text that it begins with.
+// What is left of a path behind a text with which it begins, its slashes collapsed and in any letter case.
 #[tactic(auto, using(crate::proofs::Behind::stripped))]
 fn strip_prefix_ignoring_case<'a>(path: &'a [u8], text: &[u8]) -> Option<&'a [u8]>
     ensures { rest_read result ≡ behind (collapsed path.now) text.now }

@@ -3,6 +3,7 @@
 
     instructions.py [RECORDS]       # the strip call: additional records, 60000 if not given; and half as many
     instructions.py assets          # the look-up in a list of references: `bench assets` has the sizes; and half of them
+    instructions.py strips          # the calls for both counts and for all keys of a strip read back: the same
 
 Needs the oracle built with the library (README.md). With two cores, two counts are made at a time.
 """
@@ -15,8 +16,9 @@ from concurrent.futures import ThreadPoolExecutor
 from pathlib import Path
 
 ORACLE = Path(__file__).resolve().parent / "target/release/oracle"
-# What the names of shapes for the look-up begin with.
+# What the names of shapes for the look-up begin with, and those of strips read back.
 ASSETS = "assets: "
+STRIPS = "strips: "
 
 
 def shapes():
@@ -39,12 +41,20 @@ def strip(shape, records):
     return counted("limdroven_strip", shape, str(records))[1]
 
 
-def look_up(shape):
-    """The size, the bytes of path and list, and the instructions for the whole and for half of it."""
-    call = "limdroven_asset_reference_index_for_path"
+def with_half(call, shape):
+    """The size, the bytes lent, and the instructions for the whole and for half of it."""
     told, whole = counted(call, shape)
     n, length = map(int, re.match(r": (\d+), (\d+) bytes", told.removeprefix(shape)).groups())
     return n, length, counted(call, shape, str(n // 2))[1], whole
+
+
+def look_up(shape):
+    return with_half("limdroven_asset_reference_index_for_path", shape)
+
+
+def read_back(shape):
+    """Those of the counts, and those of all keys."""
+    return [with_half(f"limdroven_strip_{call}", shape) for call in ["counts", "keys"]]
 
 
 def strips(names, pool, records):
@@ -62,14 +72,24 @@ def look_ups(names, pool):
         print(f"| {name} | {n:,} | {whole:,} | {whole / length:.2f} | {whole / half:.2f} |")
 
 
+def strips_read_back(names, pool):
+    print("| shape | n | counts: a key | a byte | half of n to n | keys: a key | a byte | half of n to n |")
+    print("| --- | --- | --- | --- | --- | --- | --- | --- |")
+    for name, calls in zip(names, pool.map(read_back, names)):
+        columns = [f"{whole / n:,.0f} | {whole / length:.1f} | {whole / half:.2f}" for n, length, half, whole in calls]
+        print(f"| {name} | {calls[0][0]:,} | {' | '.join(columns)} |")
+
+
 def main():
     word = sys.argv[1] if len(sys.argv) > 1 else "60000"
     names = shapes()
     with ThreadPoolExecutor(2) as pool:
         if word == "assets":
             look_ups([name for name in names if name.startswith(ASSETS)], pool)
+        elif word == "strips":
+            strips_read_back([name for name in names if name.startswith(STRIPS)], pool)
         else:
-            strips([name for name in names if not name.startswith(ASSETS)], pool, int(word))
+            strips([name for name in names if not name.startswith((ASSETS, STRIPS))], pool, int(word))
 
 
 main()

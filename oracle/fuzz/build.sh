@@ -22,7 +22,7 @@ for name in exports strip_export; do
     "$kit_clang" $common -c "$folder/$name.ll" -o "$folder/$name.o" -O2 -fsanitize=address \
         -fsanitize-coverage=inline-8bit-counters,pc-table,trace-cmp
 done
-sources="reading.c building.c finding.c lend.c readers.c strips.c paths.c harness.c"
+sources="reading.c building.c finding.c reading_strips.c lend.c readers.c strips.c paths.c strip_reads.c harness.c"
 objects=""
 # The reference and the harness are address checked, but do not count as coverage.
 for source in $sources; do

@@ -1,11 +1,11 @@
-/* Each input is a header of 16 bytes and a section, which is also taken as a path and a list. Every call is made on exactly the bytes and
-   places lent, and what it returns and leaves is held against reference.h.
+/* Each input is a header of 16 bytes and a section, which is also taken as a path and a list, and as a strip. Every call is made on exactly
+   the bytes and places lent, and what it returns and leaves is held against reference.h.
 
-   header: 0 start (from 240 on a huge one), 1 added to a huge start, 2 and 3 places of the work slices besides those needed, 4 bytes of the
-   output besides those needed (2 to 4 signed), 5 places of `values`, 6 what the slices hold before, 7 bit 0 include_index, bit 1 slices with
-   their forbidden page in front, bit 2 byte 4 counts from the section's length, bit 3 the strip's output directly behind the section, 8 and 9
-   number, 10 and 11 entry (from 65,528 on huge ones), 12 and 13 how many places an answer is short of, 14 and 15 length of the path, at most
-   the section's. */
+   header: 0 start (from 240 on a huge one), 1 added to a huge start, 2 and 3 places of the work slices besides those needed, 4 bytes of
+   the output besides those needed (2 to 4 signed), 5 places of `values`, 6 what the slices hold before, 7 bit 0 include_index, bit 1
+   slices with their forbidden page in front, bit 2 byte 4 counts from the section's length, bit 3 the strip's output directly behind the
+   section, bits 4 and 5 the kind of a strip's track, 8 and 9 number or track, 10 and 11 entry or key (from 65,528 on huge ones), 12 and
+   13 how many places an answer is short of, 14 and 15 length of the path, at most the section's. */
 #include <stdio.h>
 #include <stdlib.h>
 #include <string.h>
@@ -102,8 +102,9 @@ int LLVMFuzzerTestOneInput(const uint8_t *data, size_t size) {
     struct answer read = read_model(copy, length, start, &model);
     model_calls(&read, &model);
     track_calls();
-    strip_calls(&read, &model);
+    const struct built *built = strip_calls(&read, &model);
     path_calls();
+    strip_read_calls(built);
     give_back(section);
     return 0;
 }

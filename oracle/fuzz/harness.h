@@ -44,10 +44,13 @@ void take_back(const struct slice *slice, const void *answer, size_t answer_size
 /* The number that a call returned. */
 void same_status(uint32_t status, const struct answer *expected);
 
-/* The calls of limdroven.h, and that of limdroven_strip.h. `read` is what reading the model section must answer. */
+/* The calls of limdroven.h and limdroven_strip.h. `read` is what reading the model section must answer. */
 void model_calls(const struct answer *read, const struct model *model);
 void track_calls(void);
-void strip_calls(const struct answer *read, const struct model *model);
+/* The strip, if the section has one. */
+const struct built *strip_calls(const struct answer *read, const struct model *model);
 void path_calls(void);
+/* On the section's bytes, and on a strip that was built. */
+void strip_read_calls(const struct built *built);
 
 #endif

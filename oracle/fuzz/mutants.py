@@ -11,7 +11,8 @@ import subprocess
 import sys
 from pathlib import Path
 
-SOURCES = ["reading.c", "building.c", "finding.c", "lend.c", "readers.c", "strips.c", "paths.c", "harness.c", "replay.c"]
+SOURCES = ["reading.c", "building.c", "finding.c", "reading_strips.c", "lend.c", "readers.c", "strips.c", "paths.c", "strip_reads.c", "harness.c",
+           "replay.c"]
 PREDICATES = {
     "eq": "ne", "ne": "eq", "ult": "ule", "ule": "ult", "ugt": "uge", "uge": "ugt", "slt": "sle", "sle": "slt", "sgt": "sge", "sge": "sgt",
     "oeq": "one", "une": "oeq", "olt": "ole", "ole": "olt", "ogt": "oge", "oge": "ogt",

@@ -1,5 +1,5 @@
-/* Document 01, and T-01 of document 02, written down once more, in C, slowly and for short sections: what the calls must answer. It
-   shares nothing with the library, and nothing with the Rust. */
+/* Document 01, and T-01 and T-02 of document 02, written down once more, in C, slowly and for short sections: what the calls must
+   answer. It shares nothing with the library, and nothing with the Rust. */
 #ifndef REFERENCE_H
 #define REFERENCE_H
 
@@ -67,6 +67,13 @@ void build(const uint8_t *section, const struct model *model, struct built *buil
 
 /* T-01: the number of the reference, or 2^64 - 1 for none; or the refusal. */
 struct answer find_reference(const uint8_t *path, size_t path_length, const uint8_t *list, size_t list_length);
+
+/* T-02: what the calls that read a strip back answer. `rows` is written as far as a refusal is met; `written` tells how many of its
+   places the call must write. */
+struct answer strip_counts(const uint8_t *strip, size_t length);
+struct answer strip_key_count(const uint8_t *strip, size_t length, uint32_t kind, uint32_t track);
+struct answer strip_key(const uint8_t *strip, size_t length, uint32_t kind, uint32_t track, uint64_t place);
+struct answer strip_keys(const uint8_t *strip, size_t length, uint64_t first, uint32_t *rows, size_t room, size_t *written);
 
 /* An i32's pattern or a float's bits, as the calls answer both: a float is never made of them, so a NaN stays the one it is. */
 uint32_t u32_at(const uint8_t *section, size_t offset);

@@ -55,10 +55,11 @@ static size_t longer(size_t need, uint8_t byte) {
 }
 
 /* With the header's slices, with just enough, and with an output as long as the section, for which the strip need not be measured. */
-void strip_calls(const struct answer *read, const struct model *m) {
+const struct built *strip_calls(const struct answer *read, const struct model *m) {
     static uint16_t first[LONGEST], second[LONGEST];
     static uint8_t strip[4 * LONGEST];
-    struct asked asked = {read, {.first = first, .second = second, .strip = strip}, 0};
+    static struct asked asked;
+    asked = (struct asked){read, {.first = first, .second = second, .strip = strip}, 0};
     size_t output = 0;
     if (read->status == 0) {
         asked.need = m->bone.additional.count + m->morph.additional.count;
@@ -71,4 +72,5 @@ void strip_calls(const struct answer *read, const struct model *m) {
     strip_call(&asked, (struct rooms){longer(need, header[2]), longer(need, header[3]), longer(counted, header[4]), header[7] & 8});
     strip_call(&asked, (struct rooms){need, need, output, false});
     strip_call(&asked, (struct rooms){need, need, length, false});
+    return output > 0 ? &asked.built : NULL;
 }

@@ -10,6 +10,7 @@ use Rattle.section.specs.Model.{model_section}
 use Rattle.section.specs.Summary.{model_summary}
 use Rattle.strip.specs.Strip.{count_width}
 use Rattle.strip.specs.Call.{untouched, strip_call}
+use Rattle.strip_reader.specs.Read.{read_strip}
 use Rattle.cases.specs.Sections.{zeros}
 
 pub too_long : (s : List ℕ) (start : ℕ) → 16777215 < length s → model_summary edition1 s start ≡ declined (refusal 16 [])
@@ -19,6 +20,10 @@ too_long s start long = rw (lt-ltb 16777215 (length s) long)
 pub strip-too-long : (s : List ℕ) (start : ℕ) (first second output : List ℕ) → 16777215 < length s → strip_call edition1 count_width s start first second output ≡ untouched first second output (refusal 16 [])
 unfolding strip_call model_section
 strip-too-long s start first second output long = rw (lt-ltb 16777215 (length s) long)
+
+pub strip-read-too-long : (s : List ℕ) → 16777215 < length s → read_strip edition1 count_width s ≡ declined (refusal 16 [])
+unfolding read_strip
+strip-read-too-long s long = rw (lt-ltb 16777215 (length s) long)
 
 -- Zero bytes, more of them than the limit.
 pub zeros-too-long : (n start : ℕ) → 16777215 < n → model_summary edition1 (zeros n) start ≡ declined (refusal 16 [])

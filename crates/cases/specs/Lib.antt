@@ -4,3 +4,4 @@ pub mod Refusals
 pub mod Sections
 pub mod Table
 pub mod AssetPaths
+pub mod StripsRead

@@ -11,7 +11,8 @@ use Rattle.records.specs.Curves.{curves_at}
 use Rattle.clip.specs.Keys.{Key}
 use Rattle.clip.specs.Section.{bone_body}
 use Rattle.strip.specs.Plain.{Group, clamped, bone_groups, bone_fields, morph_groups, morph_fields}
-use Rattle.strip.specs.Keys.{little_endian, map_byte, present, key_bytes}
+use Rattle.strip.specs.Numbers.{little_endian}
+use Rattle.strip.specs.Keys.{map_byte, present, key_bytes}
 use Rattle.strip.proofs.Bytes.{length-little_endian}
 use Rattle.strip.proofs.Keys.{Shaped}
 use Rattle.strip.proofs.Written.{bone-shaped}

@@ -9,7 +9,7 @@ use mathlib.Core.Path.{◌≡◌, sym, ap, ◌∙◌}
 use lib.ListN.{length, take, drop, length-append, length-drop, take-append-drop}
 use lib.Seq.{length-take-le, take_at, drop_at, take-append-le, take-take, drop-append-add, drop-drop}
 use Rattle.strip.specs.Call.{over}
-use Rattle.strip.specs.Keys.{little_endian}
+use Rattle.strip.specs.Numbers.{little_endian}
 use Rattle.strip.proofs.Bytes.{length-little_endian}
 use Rattle.keys.specs.Placed.{placed, Room, Wrote}
 

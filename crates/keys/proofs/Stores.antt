@@ -7,7 +7,7 @@ use mathlib.Core.Path.{◌≡◌, refl, sym, ap, ◌∙◌}
 use lib.ListN.{length, take, drop, length-append}
 use lib.Seq.{drop-drop}
 use Rattle.std.specs.Int.{w32, w64, to_le_bytes}
-use Rattle.strip.specs.Keys.{little_endian}
+use Rattle.strip.specs.Numbers.{little_endian}
 use Rattle.strip.proofs.Bytes.{length-little_endian}
 use Rattle.keys.specs.Placed.{placed, Room, Wrote, head_bytes}
 

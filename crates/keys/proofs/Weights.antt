@@ -14,7 +14,8 @@ use Rattle.layout.specs.Walk.{u32_at, bytes_at}
 use Rattle.clip.specs.Keys.{finite, float_at}
 use Rattle.clip.specs.Section.{morph_body}
 use Rattle.strip.specs.Plain.{plain_float, plain_floats, morph_groups, morph_fields}
-use Rattle.strip.specs.Keys.{little_endian, key_bytes}
+use Rattle.strip.specs.Numbers.{little_endian}
+use Rattle.strip.specs.Keys.{key_bytes}
 use Rattle.keys.specs.Plain.{plain_in}
 use Rattle.keys.specs.Placed.{weight_key_bytes, morph_key_bytes}
 

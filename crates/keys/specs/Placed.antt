@@ -2,7 +2,7 @@
 use Rattle.std.specs.{Prelude.{ℕ, ◌+◌, ◌≤◌, cond, List, [], ◌∷◌, ◌++◌, ◌≡◌, length, take, drop, get_or, Float}, Float.{binary32}}
 use Rattle.std.specs.Float.Ieee.{to_bits}
 use Rattle.clip.specs.Section.{bone_body, morph_body}
-use Rattle.strip.specs.{Plain.{bone_groups, bone_fields, morph_groups, morph_fields}, Keys.{little_endian, key_bytes}}
+use Rattle.strip.specs.{Numbers.{little_endian}, Plain.{bone_groups, bone_fields, morph_groups, morph_fields}, Keys.{key_bytes}}
 use Rattle.keys.specs.declared.plain.BonePlain.{BonePlain}
 
 unfoldable pub placed : ℕ → List ℕ → List ℕ → List ℕ

@@ -1,7 +1,7 @@
 // One key's bytes in a strip (document 01, "The strip"): a bone key is frame u32 and a map byte, then only the fields whose bit
 // stands; a morph key likewise.
 ghost use Rattle.std.specs.Prelude.{◌≡◌, ◌+◌, ◌≤◌, length};
-ghost use Rattle.strip.specs.Keys.{little_endian};
+ghost use Rattle.strip.specs.Numbers.{little_endian};
 ghost use Rattle.keys.specs.Placed.{placed, Room, Wrote, head_bytes, bone_key_bytes, weight_key_bytes};
 ghost use Rattle.std.specs.Float.{NotNan};
 

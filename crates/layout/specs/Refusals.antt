@@ -69,3 +69,12 @@ list_cut_off = 21  -- T-01: "a list that ends inside an entry"
 
 abbrev pub not_ascii : ℕ
 not_ascii = 22  -- T-01: "and after that .. a byte above 127 in the path, which is lent whole, or in any entry's text"
+
+abbrev pub strip_not_whole : ℕ
+strip_not_whole = 23  -- T-02: "a strip that ends early or has bytes left over"
+
+abbrev pub unknown_map : ℕ
+unknown_map = 24  -- T-02: "a bone map from 16 to 255 or a morph map from 2 to 255"
+
+abbrev pub never_written : ℕ
+never_written = 25  -- T-02: "what the builder never writes"

@@ -1,48 +1,30 @@
-// One model section: its counts, every key of its strip and how many records are loose, or the number of the refusal.
-use crate::strip_keys;
-use blocks::kind::Kind;
-use section::summary;
-use section::summary::PmmDocumentModelSummary;
+// One model section, listed on standard output.
+use crate::section_lines;
 use std::io;
-use strip_call::call;
 
 // An additional record has 21 bytes or more and a section 340 besides, so 65,536 bytes hold at most 3,104.
 const RECORDS: usize = 3104;
 
-// The tracks stand behind the two counts of the strip.
-fn list_strip(
-    rt: &impl Print,
-    mut strip: &[u8],
-    m: PmmDocumentModelSummary,
-    loose: usize,
-) -> io::Result<()> {
-    println!(rt; "model {} {} {}", m.bone_count, m.morph_count, m.offset_end)?;
-    let _: [u8; 4] = strip_keys::array(&mut strip)?;
-    let bones = strip_keys::list_tracks(rt, &mut strip, Kind::Bone, m.bone_count)?;
-    let morphs = strip_keys::list_tracks(rt, &mut strip, Kind::Morph, m.morph_count)?;
-    println!(rt; "keys {} loose {loose}", bones.saturating_add(morphs))
-}
+// A strip is shorter than its section.
+const STRIP: usize = 65536;
 
-// A strip is shorter than its section, so the output is long enough.
-fn list_model(
-    rt: &impl Print,
-    section: &[u8],
-    start: usize,
-    m: PmmDocumentModelSummary,
-) -> io::Result<()> {
+// A track takes 22 bytes or more, so there are no more keys than records could be. The line of a key has at most 24 bytes: a track has 4
+// digits there and a frame 10. The other two have less than 64.
+const TEXT: usize = 24 * RECORDS + 64;
+
+// Of at most 65,536 bytes; with more the slices may be too short: 17 or 18 is told, or the lines end early.
+pub fn list(rt: &impl Print, section: &[u8], start: usize) -> io::Result<()> {
     let mut first = [0; RECORDS];
     let mut second = [0; RECORDS];
-    let mut output = [0; 65536];
-    match call::strip(section, start, &mut first, &mut second, &mut output) {
-        Ok(built) => list_strip(rt, &output, m, built.loose),
-        Err(why) => println!(rt; "refused {}", why.number()),
-    }
-}
-
-// Of at most 65,536 bytes; with more the slices may be too short, and 17 or 18 is told.
-pub fn list(rt: &impl Print, section: &[u8], start: usize) -> io::Result<()> {
-    match summary::read_document_model_summary(section, start) {
-        Ok(m) => list_model(rt, section, start, m),
-        Err(why) => println!(rt; "refused {}", why.number()),
-    }
+    let mut strip = [0; STRIP];
+    let mut text = [0; TEXT];
+    let end = section_lines::write_section(
+        &mut text,
+        section,
+        start,
+        &mut first,
+        &mut second,
+        &mut strip,
+    );
+    rt.write_all(&text[..end])
 }

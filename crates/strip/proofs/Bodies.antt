@@ -12,7 +12,8 @@ use Rattle.clip.specs.Build.{chain_of, keys}
 use Rattle.clip.proofs.Bodies.{key_body, records_body, same-chain_of, same_keys, first_cong}
 use Rattle.strip.specs.Plain.{Group}
 use Rattle.strip.specs.Keys.{key_bytes}
-use Rattle.strip.specs.Strip.{keys_bytes, track_bytes, tracks_bytes}
+use Rattle.strip.specs.Strip.{keys_bytes, track_bytes}
+use Rattle.strip.proofs.ByTrack.{tracks_from}
 use Rattle.strip.specs.Work.{each, inserted, by_index, plus_one, track_mark}
 
 pub each-cong : (n : ℕ) (f g : ℕ → ℕ) → ((i : ℕ) → i < n → f i ≡ g i) → each n f ≡ each n g
@@ -49,7 +50,7 @@ module _ {A B : Type 0} (f : A → B) (r : Records A) where
       unfolding track_bytes
       track-bytes ks = rw (length-map ks (key_body f), keys-bytes ks)
 
-      pub same_bytes : (t n : ℕ) → tracks_bytes width groups fields_of (keys kind (records_body f r)) t n ≡ tracks_bytes width groups (λ a. fields_of (f a)) (keys kind r) t n
-      unfolding tracks_bytes
+      pub same_bytes : (t n : ℕ) → tracks_from width groups fields_of (keys kind (records_body f r)) t n ≡ tracks_from width groups (λ a. fields_of (f a)) (keys kind r) t n
+      unfolding tracks_from
       same_bytes t zero = refl
       same_bytes t (suc n) = rw (same_keys f kind r t, track-bytes (keys kind r t), same_bytes (suc t) n)

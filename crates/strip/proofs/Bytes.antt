@@ -6,7 +6,7 @@ use native.Mathlib.Omega.{arith}
 use mathlib.Core.List.{List, [], ◌∷◌, ◌++◌}
 use mathlib.Core.Path.{◌≡◌, refl, sym, ap, ◌∙◌, subst}
 use lib.ListN.{length}
-use Rattle.strip.specs.Keys.{little_endian}
+use Rattle.strip.specs.Numbers.{little_endian}
 
 module _ {A : Type 0} where
   pub head-is : {a b : A} {vs ws : List A} → a ∷ vs ≡ b ∷ ws → a ≡ b

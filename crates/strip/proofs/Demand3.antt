@@ -19,8 +19,9 @@ use Rattle.clip.proofs.Clip.{SoundClip, sound-clip}
 use Rattle.clip.proofs.Matched.{accepted-exactly, same-tracks}
 use Rattle.clip.proofs.Facts.{Blocks, blocks}
 use Rattle.strip.specs.Plain.{bone_groups, bone_fields, morph_groups, morph_fields}
-use Rattle.strip.specs.Keys.{little_endian}
-use Rattle.strip.specs.Strip.{count_width, tracks_bytes, strip_of}
+use Rattle.strip.specs.Numbers.{little_endian}
+use Rattle.strip.specs.Strip.{count_width, strip_of}
+use Rattle.strip.proofs.ByTrack.{tracks_from, strip-of-tracks}
 use Rattle.strip.specs.Runs.{SameTracks}
 use Rattle.strip.specs.Demand3.{MatchedSections, AcceptedSections}
 use Rattle.strip.proofs.Bytes.{counts-are}
@@ -40,11 +41,10 @@ module _ (s₁ : List ℕ) (m₁ : Model) (s₂ : List ℕ) (m₂ : Model) (of_b
       )
 
   same-strips : (width : ℕ) → SoundClip s₂ m₂ → strip_of width s₁ m₁ ≡ strip_of width s₂ m₂
-  unfolding strip_of
   same-strips width c₂ =
       let b = equal-tracks width bone_groups bone_fields (keys bone (bones s₁ m₁)) (keys bone (bones s₂ m₂)) (bones s₁ m₁).tracks 0 (λ t low high. same-tracks (bones s₁ m₁) (bones s₂ m₂) of_bones bone bone_test c₁.bones c₂.bones t (omega arith)) in
       let m = equal-tracks width morph_groups morph_fields (keys morph (morphs s₁ m₁)) (keys morph (morphs s₂ m₂)) (morphs s₁ m₁).tracks 0 (λ t low high. same-tracks (morphs s₁ m₁) (morphs s₂ m₂) of_morphs morph morph_test c₁.morphs c₂.morphs t (omega arith)) in
-      rw (b, m, of_bones.tracks, of_morphs.tracks)
+      rw (strip-of-tracks width s₁ m₁, strip-of-tracks width s₂ m₂, b, m, of_bones.tracks, of_morphs.tracks)
 
 pub matched-sections : (limits : Limits) (width : ℕ) → MatchedSections limits width
 matched-sections limits width =
@@ -85,15 +85,15 @@ module _ (limits : Limits) (width : ℕ) (wide : Wide limits width) (s : List �
 
 module _ (limits : Limits) (width : ℕ) (wide : Wide limits width) (s₁ : List ℕ) (m₁ : Model) (b₁ : Blocks limits s₁ m₁) (c₁ : SoundClip s₁ m₁) (s₂ : List ℕ) (m₂ : Model) (b₂ : Blocks limits s₂ m₂) (c₂ : SoundClip s₂ m₂) where
   bone_bytes : (s : List ℕ) (m : Model) → ℕ → List ℕ
-  bone_bytes s m n = tracks_bytes width bone_groups bone_fields (keys bone (bones s m)) 0 n
+  bone_bytes s m n = tracks_from width bone_groups bone_fields (keys bone (bones s m)) 0 n
 
   morph_bytes : (s : List ℕ) (m : Model) → ℕ → List ℕ
-  morph_bytes s m n = tracks_bytes width morph_groups morph_fields (keys morph (morphs s m)) 0 n
+  morph_bytes s m n = tracks_from width morph_groups morph_fields (keys morph (morphs s m)) 0 n
 
   -- The strip from its front.
   flat : (s : List ℕ) (m : Model) → strip_of width s m ≡ little_endian width (bones s m).tracks ++ (little_endian width (morphs s m).tracks ++ (bone_bytes s m (bones s m).tracks ++ (morph_bytes s m (morphs s m).tracks ++ [])))
-  unfolding strip_of bone_bytes morph_bytes
-  flat s m = simp (append_assoc, append-nil)
+  unfolding bone_bytes morph_bytes
+  flat s m = strip-of-tracks width s m ∙ simp (append_assoc, append-nil)
 
   same : strip_of width s₁ m₁ ≡ strip_of width s₂ m₂ → SameTracks s₁ m₁ s₂ m₂
   unfolding bone_bytes morph_bytes
@@ -117,13 +117,12 @@ module _ (limits : Limits) (width : ℕ) (wide : Wide limits width) (s₁ : List
       }
 
   alike : SameTracks s₁ m₁ s₂ m₂ → strip_of width s₁ m₁ ≡ strip_of width s₂ m₂
-  unfolding strip_of
   alike t =
       let nb = t.bone_count in
       let nm = t.morph_count in
       let b = Tracks.same-tracks width bone_groups bone_fields (keys bone (bones s₁ m₁)) (keys bone (bones s₂ m₂)) (bones s₁ m₁).tracks 0 (λ i low high. bone-writable limits width wide s₁ m₁ b₁ c₁ i (omega arith)) (λ i low high. bone-writable limits width wide s₂ m₂ b₂ c₂ i (omega (arith, nb))) (λ i low high. t.bone_tracks i (omega arith)) in
       let m = Tracks.same-tracks width morph_groups morph_fields (keys morph (morphs s₁ m₁)) (keys morph (morphs s₂ m₂)) (morphs s₁ m₁).tracks 0 (λ i low high. morph-writable limits width wide s₁ m₁ b₁ c₁ i (omega arith)) (λ i low high. morph-writable limits width wide s₂ m₂ b₂ c₂ i (omega (arith, nm))) (λ i low high. t.morph_tracks i (omega arith)) in
-      rw (b, m, nb, nm)
+      rw (strip-of-tracks width s₁ m₁, strip-of-tracks width s₂ m₂, b, m, nb, nm)
 
 pub accepted-sections : (limits : Limits) (width : ℕ) → Wide limits width → AcceptedSections limits width
 accepted-sections limits width wide =

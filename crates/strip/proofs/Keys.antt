@@ -9,7 +9,8 @@ use mathlib.Core.Path.{◌≡◌, refl, sym, ap, ◌∙◌}
 use lib.ListN.{length}
 use Rattle.clip.specs.Keys.{Key}
 use Rattle.strip.specs.Plain.{Group}
-use Rattle.strip.specs.Keys.{little_endian, map_byte, present, key_bytes, SameFields, Alike, AlikeKeys}
+use Rattle.strip.specs.Numbers.{little_endian}
+use Rattle.strip.specs.Keys.{map_byte, present, key_bytes, SameFields, Alike, AlikeKeys}
 use Rattle.strip.specs.Strip.{keys_bytes}
 use Rattle.strip.proofs.Bytes.{head-is, tail-is, front-is, counts-are}
 

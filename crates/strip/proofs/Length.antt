@@ -24,8 +24,10 @@ use Rattle.clip.proofs.Reached.{reached-and-loose}
 use Rattle.clip.proofs.Clip.{sound-clip}
 use Rattle.clip.proofs.Facts.{blocks}
 use Rattle.strip.specs.Plain.{Group, bone_groups, bone_fields, morph_groups, morph_fields}
-use Rattle.strip.specs.Keys.{little_endian, map_byte, present, key_bytes}
-use Rattle.strip.specs.Strip.{keys_bytes, track_bytes, tracks_bytes, strip_of}
+use Rattle.strip.specs.Numbers.{little_endian}
+use Rattle.strip.specs.Keys.{map_byte, present, key_bytes}
+use Rattle.strip.specs.Strip.{keys_bytes, track_bytes, strip_of}
+use Rattle.strip.proofs.ByTrack.{tracks_from, strip-of-tracks}
 use Rattle.strip.proofs.Bytes.{length-little_endian}
 use Rattle.strip.proofs.Keys.{Shaped}
 use Rattle.strip.proofs.Written.{ShapedRecords, bones-shaped, morphs-shaped}
@@ -71,13 +73,13 @@ module _ {B : Type 0} (groups : List Group) (fields_of : B → List (List ℕ)) 
       omega (arith, sum, one, rest, more)
 
   module _ (width : ℕ) (narrow : width ≤ 4) (f : ℕ → List (Key B)) (shaped : (t : ℕ) → AllShaped (f t)) where
-    tracks-fit : (n t : ℕ) → length (tracks_bytes width groups fields_of f t n) ≤ 4 * n + (5 + widths groups) * total n (λ i. length (f (t + i)))
-    unfolding tracks_bytes track_bytes
+    tracks-fit : (n t : ℕ) → length (tracks_from width groups fields_of f t n) ≤ 4 * n + (5 + widths groups) * total n (λ i. length (f (t + i)))
+    unfolding tracks_from track_bytes
     tracks-fit zero t = omega arith
     tracks-fit (suc n) t =
         let lengths : ℕ → ℕ = λ i. length (f (t + i)) in
         let K : ℕ = 5 + widths groups in
-        let outer = length-append (track_bytes width groups fields_of (f t)) (tracks_bytes width groups fields_of f (suc t) n) in
+        let outer = length-append (track_bytes width groups fields_of (f t)) (tracks_from width groups fields_of f (suc t) n) in
         let inner = length-append (little_endian width (length (f t))) (keys_bytes groups fields_of (f t)) in
         let count = length-little_endian width (length (f t)) in
         let ks = keys-fit (f t) (shaped t) in
@@ -103,7 +105,7 @@ module _ {B : Type 0} (kind : Kind) (test : KeyTest B) (asked : B → Option ℕ
   unfolding keys
   keys-many t = ap suc (length-map (chain_of kind r t) (λ p. record_key (r.at p)))
 
-  kind_fits : (width : ℕ) → width ≤ 4 → Sound test r → length (tracks_bytes width groups fields_of (keys kind r) 0 r.tracks) ≤ 4 * r.tracks + (5 + widths groups) * (r.tracks + r.additional)
+  kind_fits : (width : ℕ) → width ≤ 4 → Sound test r → length (tracks_from width groups fields_of (keys kind r) 0 r.tracks) ≤ 4 * r.tracks + (5 + widths groups) * (r.tracks + r.additional)
   unfolding links_followed
   kind_fits width narrow s =
       let n = r.tracks in
@@ -118,14 +120,15 @@ module _ {B : Type 0} (kind : Kind) (test : KeyTest B) (asked : B → Option ℕ
 
 -- For either edition: a count has at most 4 bytes.
 pub no_longer : (limits : Limits) (width : ℕ) → width ≤ 4 → (s : List ℕ) (start : ℕ) (m : Model) (end : ℕ) → model_section limits s start ≡ fine m end → clip_refusal s m ≡ none → length (strip_of width s m) ≤ length s
-unfolding strip_of bones morphs records_at size
+unfolding bones morphs records_at size
 no_longer limits width narrow s start m end reads passes =
     let c = sound-clip s m passes in
     let b = blocks limits s start m end reads in
     let nb = (bones s m).tracks in
     let nm = (morphs s m).tracks in
-    let bone_tracks = tracks_bytes width bone_groups bone_fields (keys bone (bones s m)) 0 nb in
-    let morph_tracks = tracks_bytes width morph_groups morph_fields (keys morph (morphs s m)) 0 nm in
+    let bone_tracks = tracks_from width bone_groups bone_fields (keys bone (bones s m)) 0 nb in
+    let morph_tracks = tracks_from width morph_groups morph_fields (keys morph (morphs s m)) 0 nm in
+    let is = ap length (strip-of-tracks width s m) in
     let l1 = length-append (little_endian width nb ++ little_endian width nm ++ bone_tracks) morph_tracks in
     let l2 = length-append (little_endian width nb ++ little_endian width nm) bone_tracks in
     let l3 = length-append (little_endian width nb) (little_endian width nm) in
@@ -138,4 +141,4 @@ no_longer limits width narrow s start m end reads passes =
     let b3 = b.morphs.offset in
     let b4 = b.morphs.ends in
     let last = b.within in
-    omega (arith, l1, l2, l3, w1, w2, k1, k2, b1, b2, b3, b4, last, narrow)
+    omega (arith, is, l1, l2, l3, w1, w2, k1, k2, b1, b2, b3, b4, last, narrow)

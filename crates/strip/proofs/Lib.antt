@@ -1,5 +1,6 @@
 pub mod Bytes
 pub mod Keys
+pub mod ByTrack
 pub mod Tracks
 pub mod Call
 pub mod Written

@@ -1,13 +1,8 @@
 -- Document 01, "The strip" (FORMAT, The strip; of keys that are alike, Two sections, one strip): a key's bytes, and when two keys are
 -- alike.
-use Rattle.std.specs.Prelude.{ℕ, zero, suc, ◌+◌, ◌*◌, ◌/◌, ◌%◌, true, cond, List, [], ◌∷◌, ◌++◌, ◌⊎◌, ◌≡◌}
+use Rattle.std.specs.Prelude.{ℕ, ◌+◌, ◌*◌, true, cond, List, [], ◌∷◌, ◌++◌, ◌⊎◌, ◌≡◌}
 use Rattle.clip.specs.Keys.{Key}
-use Rattle.strip.specs.Plain.{Group}
-
--- "Numbers in files are little endian"
-unfoldable pub little_endian : ℕ → ℕ → List ℕ
-little_endian zero n = []
-little_endian (suc width) n = n % 256 ∷ little_endian width (n / 256)
+use Rattle.strip.specs.{Numbers.{little_endian}, Plain.{Group}}
 
 -- "A bit stands unless every component equals .. its plain value"
 unfoldable pub map_byte : List Group → List (List ℕ) → ℕ

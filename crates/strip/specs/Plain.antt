@@ -1,8 +1,9 @@
 -- Document 01, "The strip" (FORMAT, The strip): the groups of fields that a map byte names, and when each is plain.
-use Rattle.std.specs.Prelude.{ℕ, ◌+◌, min, Bool, true, false, ◌&&◌, List, [], ◌∷◌, map, eqb, take, drop}
+use Rattle.std.specs.Prelude.{ℕ, ◌+◌, min, Bool, true, false, ◌&&◌, List, [], ◌∷◌, ◌++◌, map, eqb, take, drop}
 use Rattle.std.specs.Float.Ieee.{eq}
 use Rattle.layout.specs.{Numbers.{float}, Walk.{u32_at}}
 use Rattle.clip.specs.Fields.{BoneBody}
+use Rattle.strip.specs.Numbers.{little_endian}
 
 -- "every component equals, as a float or byte, its plain value": of a float, by the bits of both.
 unfoldable pub plain_float : ℕ → ℕ → Bool
@@ -18,10 +19,16 @@ plain_bytes [] bytes = true
 plain_bytes (plain ∷ plains) [] = false
 plain_bytes (plain ∷ plains) (byte ∷ bytes) = eqb byte plain && plain_bytes plains bytes
 
--- A group of fields: how many bytes it has, and when they are plain.
+-- A group of fields: how many bytes it has, when they are plain, and its "plain value", by its bytes.
 pub record Group : Type 0 where
   pub width : ℕ
   pub plain : List ℕ → Bool
+  pub value : List ℕ
+
+-- The bytes of floats, given by their bits.
+unfoldable pub floats : List ℕ → List ℕ
+floats [] = []
+floats (bits ∷ others) = little_endian 4 bits ++ floats others
 
 -- The bits of the f32 1.
 abbrev pub one : ℕ
@@ -38,15 +45,15 @@ plain_curves = 20 ∷ 20 ∷ 107 ∷ 107 ∷ 20 ∷ 20 ∷ 107 ∷ 107 ∷ 20 �
 -- orientation 0, 0, 0, 1"
 abbrev pub bone_groups : List Group
 bone_groups =
-    record { width = 12; plain = plain_floats 0 (0 ∷ 0 ∷ 0 ∷ []) }
-    ∷ record { width = 16; plain = plain_floats 0 (0 ∷ 0 ∷ 0 ∷ one ∷ []) }
-    ∷ record { width = 12; plain = plain_bytes plain_curves }
-    ∷ record { width = 4; plain = plain_bytes plain_curve }
+    record { width = 12; plain = plain_floats 0 (0 ∷ 0 ∷ 0 ∷ []); value = floats (0 ∷ 0 ∷ 0 ∷ []) }
+    ∷ record { width = 16; plain = plain_floats 0 (0 ∷ 0 ∷ 0 ∷ one ∷ []); value = floats (0 ∷ 0 ∷ 0 ∷ one ∷ []) }
+    ∷ record { width = 12; plain = plain_bytes plain_curves; value = plain_curves }
+    ∷ record { width = 4; plain = plain_bytes plain_curve; value = plain_curve }
     ∷ []
 
 -- "A morph key is frame u32, map byte, and with bit 0 the weight (4)"; "weight 0"
 abbrev pub morph_groups : List Group
-morph_groups = record { width = 4; plain = plain_floats 0 (0 ∷ []) } ∷ []
+morph_groups = record { width = 4; plain = plain_floats 0 (0 ∷ []); value = floats (0 ∷ []) } ∷ []
 
 -- "each byte above 127 counts as 127 in a clip"
 abbrev pub clamped : List ℕ → List ℕ

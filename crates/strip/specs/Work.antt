@@ -5,7 +5,7 @@ use Rattle.section.specs.declared.model.Model.{Model}
 use Rattle.clip.specs.{First.{given, first_met, member}, Fields.{Records, Kind, bone, morph}, Build.{chain_of}, Section.{bones, morphs}}
 
 -- f 0, f 1, .., f (n - 1)
-unfoldable pub each : ℕ → (ℕ → ℕ) → List ℕ
+unfoldable pub each : {A : Type 0} → ℕ → (ℕ → A) → List A
 each zero f = []
 each (suc n) f = each n f ++ f n ∷ []
 

@@ -7,7 +7,7 @@ use mathlib.Core.Path.{◌≡◌, ap, ◌∙◌}
 use lib.ListN.{length, length-append}
 use Rattle.keys.specs.Placed.{placed, Room, Wrote}
 use Rattle.keys.proofs.Placing.{length-placed, room-front, room_back, wrote_then, number-wrote}
-use Rattle.strip.specs.Keys.{little_endian}
+use Rattle.strip.specs.Numbers.{little_endian}
 use Rattle.strip.proofs.Bytes.{length-little_endian}
 use Rattle.blocks.specs.declared.block.Block.{Block}
 use Rattle.writing.specs.Tracks.{strip_tracks}

@@ -20,6 +20,7 @@ use Rattle.strip.specs.Strip.{count_width, strip_of}
 use Rattle.strip.specs.Work.{first_work, second_work}
 use Rattle.strip.specs.Call.{built}
 use Rattle.strip.proofs.Bodies.{same-by_index, same-marks, same_bytes}
+use Rattle.strip.proofs.ByTrack.{strip-of-tracks}
 use Rattle.blocks.specs.Block.{Fits, links}
 use Rattle.strip_call.specs.Blocks.{bone_block, morph_block}
 use Rattle.strip_call.specs.Building.{kind_meets}
@@ -32,9 +33,10 @@ module _ (s : List ℕ) (m : Model) where
   same_met = rw (same-build (bone_body s) bone (links s (bone_block m)) bone_test, same-build (morph_body s) morph (links s (morph_block m)) morph_test)
 
   pub same-strip : strip_of count_width s m ≡ strip_bytes s (bone_block m) (morph_block m)
-  unfolding strip_of strip_bytes bones morphs records_at initial_at additional_at bone_block morph_block
+  unfolding strip_bytes bones morphs records_at initial_at additional_at bone_block morph_block
   same-strip =
-      rw (
+      strip-of-tracks count_width s m
+      ∙ rw (
         same_bytes (bone_body s) (links s (bone_block m)) bone count_width bone_groups bone_fields 0 m.front.counts.bones.count,
         same_bytes (morph_body s) (links s (morph_block m)) morph count_width morph_groups morph_fields 0 m.front.counts.morphs.count,
       )

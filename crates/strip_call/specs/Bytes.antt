@@ -1,6 +1,6 @@
 -- The strip's bytes, where bodies are known by their offsets.
 use Rattle.std.specs.Prelude.{ℕ, List, ◌++◌}
-use Rattle.strip.specs.Keys.{little_endian}
+use Rattle.strip.specs.Numbers.{little_endian}
 use Rattle.blocks.specs.declared.block.Block.{Block}
 use Rattle.writing.specs.Tracks.{strip_tracks}
 

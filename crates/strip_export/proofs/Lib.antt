@@ -1,1 +1,2 @@
 pub mod Seen
+pub mod ReadStrips

@@ -1,11 +1,11 @@
 // A slice that is lent to a call, and what it must hold afterwards.
 ghost use Rattle.std.specs.Prelude.{true, ◌≡◌, ◌≤◌, ◌*◌, ℕ, List, length, take, drop};
-ghost use Rattle.std.specs.Int.{from_le_bytes, w8, w16, w64};
+ghost use Rattle.std.specs.Int.{from_le_bytes, w8, w16, w32, w64};
 ghost use Rattle.vectors.specs.Fields.{padded};
 
 use crate::fields::Fields;
 
-// What a slice has: bytes, numbers, or places of a work slice. Each width has an impl of its own, two lines and two definitions.
+// What a slice has: bytes, numbers, or places of a work slice or of rows. Each width has an impl of its own, two lines and two definitions.
 pub trait Place: Copy + PartialEq {
     // What stands there before a call: every byte is 0xa5.
     const BEFORE: Self;
@@ -52,6 +52,22 @@ impl Place for u16 {
 
     fn read(fields: &mut Fields<'_>) -> u16 {
         fields.u16()
+    }
+}
+
+impl Place for u32 {
+    const BEFORE: u32 = 0xa5a5_a5a5;
+
+    ghost width = { 4 };
+
+    ghost value = { λ left. from_le_bytes w32 (padded 4 left) };
+
+    fn width() -> usize {
+        4
+    }
+
+    fn read(fields: &mut Fields<'_>) -> u32 {
+        fields.u32()
     }
 }
 

@@ -45,8 +45,8 @@ impl fmt::Display for Count {
 pub struct Tally {
     pub sections: u64,
     pub checks: u64,
-    // Refusals have numbers up to 22.
-    pub returned: [Count; 23],
+    // Refusals have numbers up to 25.
+    pub returned: [Count; 26],
     pub bytes: Count,
 }
 

@@ -9,7 +9,8 @@ use lib.Ieee.{Float, binary32, to_bits}
 use lib.ListN.{length}
 use Rattle.clip.specs.Keys.{Key}
 use Rattle.strip.specs.Plain.{Group, morph_groups, morph_fields}
-use Rattle.strip.specs.Keys.{little_endian, key_bytes}
+use Rattle.strip.specs.Numbers.{little_endian}
+use Rattle.strip.specs.Keys.{key_bytes}
 use Rattle.strip.proofs.Bytes.{length-little_endian}
 use Rattle.strip.proofs.Keys.{Shaped}
 use Rattle.strip.proofs.Length.{widths}

@@ -5,7 +5,7 @@ use native.Mathlib.Omega.{arith}
 use mathlib.Core.List.{List, ◌++◌, append_assoc}
 use mathlib.Core.Path.{◌≡◌, ap, sym, ◌∙◌, subst}
 use lib.ListN.{length}
-use Rattle.strip.specs.Keys.{little_endian}
+use Rattle.strip.specs.Numbers.{little_endian}
 use Rattle.strip.proofs.Bytes.{length-little_endian}
 use Rattle.keys.specs.Placed.{placed, Room, Wrote}
 use Rattle.keys.proofs.Placing.{length-placed, room-front, room_back, room-behind, wrote_then, wrote-before}

@@ -11,8 +11,9 @@ use lib.ListN.{length, length-append, length-map}
 use Rattle.clip.specs.Keys.{Key}
 use Rattle.clip.specs.Build.{initial_key, record_key, keys}
 use Rattle.strip.specs.Plain.{Group}
-use Rattle.strip.specs.Keys.{little_endian}
-use Rattle.strip.specs.Strip.{keys_bytes, track_bytes, tracks_bytes}
+use Rattle.strip.specs.Numbers.{little_endian}
+use Rattle.strip.specs.Strip.{keys_bytes, track_bytes}
+use Rattle.strip.proofs.ByTrack.{tracks_from}
 use Rattle.strip.proofs.Bytes.{length-little_endian}
 use Rattle.blocks.specs.Block.{links}
 use Rattle.chains.specs.Chain.{chain_at}
@@ -21,15 +22,15 @@ use Rattle.writing.specs.Tracks.{groups_of, fields_at, initial_bytes, record_byt
 use Rattle.writing.proofs.OfKind.{key-most}
 
 module _ {B : Type 0} (width : ℕ) (groups : List Group) (fields_of : B → List (List ℕ)) (of : ℕ → List (Key B)) where
-  tracks-more : (n t : ℕ) → tracks_bytes width groups fields_of of t (suc n) ≡ tracks_bytes width groups fields_of of t n ++ track_bytes width groups fields_of (of (t + n))
-  unfolding tracks_bytes
+  tracks-more : (n t : ℕ) → tracks_from width groups fields_of of t (suc n) ≡ tracks_from width groups fields_of of t n ++ track_bytes width groups fields_of (of (t + n))
+  unfolding tracks_from
   tracks-more zero t = rw (append-nil (track_bytes width groups fields_of (of t)), add-zero t)
   tracks-more (suc n) t =
       let same : suc t + n ≡ t + suc n = omega arith in
       let track = track_bytes width groups fields_of (of t) in
       let last = track_bytes width groups fields_of (of (t + suc n)) in
-      ap (λ (bs : List ℕ). track ++ bs) (tracks-more n (suc t) ∙ ap (λ (k : ℕ). tracks_bytes width groups fields_of of (suc t) n ++ track_bytes width groups fields_of (of k)) same)
-      ∙ sym (append_assoc track (tracks_bytes width groups fields_of of (suc t) n) last)
+      ap (λ (bs : List ℕ). track ++ bs) (tracks-more n (suc t) ∙ ap (λ (k : ℕ). tracks_from width groups fields_of of (suc t) n ++ track_bytes width groups fields_of (of k)) same)
+      ∙ sym (append_assoc track (tracks_from width groups fields_of of (suc t) n) last)
 
 module _ (s : List ℕ) (b : Block) where
   pub no-records : records_bytes s b [] ≡ []
@@ -86,7 +87,7 @@ module _ (s : List ℕ) (b : Block) where
       omega (arith, long, first, rest, few)
 
   pub no-tracks : first_tracks s b 0 ≡ []
-  unfolding tracks_bytes
+  unfolding tracks_from
   no-tracks = refl
 
   pub first_more : (n : ℕ) → first_tracks s b (n + 1) ≡ first_tracks s b n ++ strip_track s b n

@@ -2,7 +2,8 @@
 use Rattle.std.specs.Prelude.{ℕ, List, map}
 use Rattle.clip.specs.{Keys.{Key}, Build.{initial_key, record_key, keys}, Section.{bone_body, morph_body}}
 use Rattle.strip.specs.{Plain.{Group, bone_groups, bone_fields, morph_groups, morph_fields}, Keys.{key_bytes}}
-use Rattle.strip.specs.Strip.{count_width, keys_bytes, track_bytes, tracks_bytes}
+use Rattle.strip.specs.Strip.{count_width, keys_bytes, track_bytes}
+use Rattle.strip.proofs.ByTrack.{tracks_from}
 use Rattle.blocks.specs.{Kind.{kind_of}, Block.{links}}
 use Rattle.blocks.specs.declared.{block.Block.{Block}, kind.Kind.{Kind}}
 
@@ -38,7 +39,7 @@ module _ (s : List ℕ) (b : Block) where
 
   -- The first n tracks; all of them.
   abbrev pub first_tracks : ℕ → List ℕ
-  first_tracks n = tracks_bytes count_width (groups_of b.kind) (fields_at s b.kind) keys_at 0 n
+  first_tracks n = tracks_from count_width (groups_of b.kind) (fields_at s b.kind) keys_at 0 n
 
   abbrev pub strip_tracks : List ℕ
   strip_tracks = first_tracks b.initials.count

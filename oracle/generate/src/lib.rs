@@ -1,4 +1,4 @@
-//! Sections, and paths with lists of references, made from a seed: the same case from the same seed and number, everywhere.
+//! Sections, paths with lists of references, and strips, made from a seed: the same case from the same seed and number, everywhere.
 
 pub mod asset_limits;
 pub mod asset_lists;
@@ -11,6 +11,12 @@ pub mod refusals;
 pub mod section;
 pub mod shapes;
 pub mod sound;
+pub mod strip_bytes;
+pub mod strip_faults;
+pub mod strip_frames;
+pub mod strip_keys;
+pub mod strip_limits;
+pub mod strips;
 pub mod values;
 
 use prng::Prng;

@@ -1,6 +1,6 @@
 //! The proved library, called as C calls it. A slice is a pointer and a length.
 
-use calls::{Arguments, Call, Other, Slices};
+use calls::{Arguments, Call, Other, Slices, StripReads};
 use limdroven::raw;
 pub use limdroven::raw::asset_reference_index_for_path;
 
@@ -65,6 +65,24 @@ impl Other for Library {
     fn strip(&self, section: &[u8], start: u64, slices: &mut Slices) -> u32 {
         let Slices { first, second, output, values } = slices;
         raw::strip(section, place(start), first, second, output, values)
+    }
+}
+
+impl StripReads for Library {
+    fn counts(&self, strip: &[u8], values: &mut [u64]) -> u32 {
+        raw::strip_counts(strip, values)
+    }
+
+    fn key_count(&self, strip: &[u8], kind: u32, track: u32, values: &mut [u64]) -> u32 {
+        raw::strip_key_count(strip, kind, track, values)
+    }
+
+    fn key(&self, strip: &[u8], kind: u32, track: u32, place: usize, values: &mut [u64]) -> u32 {
+        raw::strip_key(strip, kind, track, place, values)
+    }
+
+    fn keys(&self, strip: &[u8], first: usize, rows: &mut [u32], values: &mut [u64]) -> u32 {
+        raw::strip_keys(strip, first, rows, values)
     }
 }
 

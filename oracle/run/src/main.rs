@@ -2,7 +2,9 @@
 //! `oracle compare [CASES] [SEED]` holds the proved library against it.
 //! `oracle sample [CASES] [SEED]` does so with a sample of the calls, to take in more cases.
 //! `oracle assets [CASES] [SEED]` does both with paths and lists of references: the Rust and document 02, and the library if it is there.
-//! `oracle bench [NAME]` times both on the same sections, paths and lists; `oracle profile SHAPE [N] [exact]` makes one call on one of them.
+//! `oracle strips [STRIPS] [SEED]` reads strips back, and holds the library's calls against this if it is there.
+//! `oracle bench [NAME]` times both on the same sections, paths and lists, and the library on strips; `oracle profile SHAPE [N] [exact]`
+//! makes one call on one of them.
 //! `oracle vectors CRATE` writes a sample of the readers' answers in the Rust and one of strip calls for the program that replays them.
 //! `oracle seeds FOLDER [FILES] [SEED]` writes generated sections as files for the fuzzer.
 //! `oracle case SEED NUMBER` shows one case and what is expected of it.
@@ -31,6 +33,7 @@ fn main() -> ExitCode {
         (Some("compare"), _) => compare(number(1).unwrap_or(100_000), number(2).unwrap_or(1), Extent::Whole),
         (Some("sample"), _) => compare(number(1).unwrap_or(100_000), number(2).unwrap_or(1), Extent::Sampled(SAMPLED)),
         (Some("assets"), _) => assets(number(1).unwrap_or(1_000_000), number(2).unwrap_or(1)),
+        (Some("strips"), _) => strips(number(1).unwrap_or(1_000_000), number(2).unwrap_or(1)),
         (Some("bench"), only) => bench(only.map_or("", String::as_str)),
         (Some("profile"), Some(shape)) => {
             let exact = arguments.get(3).is_some_and(|word| word == "exact");
@@ -45,7 +48,7 @@ fn main() -> ExitCode {
         (Some("apart"), _) => apart(number(1).unwrap_or(i32::MAX as u64)),
         _ => {
             eprintln!("oracle self [CASES] [SEED]\noracle compare [CASES] [SEED]\noracle sample [CASES] [SEED]");
-            eprintln!("oracle assets [CASES] [SEED]");
+            eprintln!("oracle assets [CASES] [SEED]\noracle strips [STRIPS] [SEED]");
             eprintln!("oracle bench [NAME]\noracle profile SHAPE [N] [exact]\noracle seeds FOLDER [FILES] [SEED]");
             eprintln!("oracle vectors CRATE\noracle case SEED NUMBER\noracle apart COUNT");
             ExitCode::FAILURE
@@ -110,9 +113,46 @@ fn assets(cases: u64, seed: u64) -> ExitCode {
 }
 
 #[cfg(feature = "library")]
+fn strip_reads() -> Option<impl calls::StripReads> {
+    Some(library::Library)
+}
+
+#[cfg(not(feature = "library"))]
+fn strip_reads() -> Option<impl calls::StripReads> {
+    None::<calls::strip_reads::Reader>
+}
+
+fn strips(strips: u64, seed: u64) -> ExitCode {
+    println!("seed {seed}, {strips} strips");
+    let began = Instant::now();
+    let mut tally = run::strip_read_tally::Tally::default();
+    let library = strip_reads();
+    let mut comparison = run::strip_reads::Comparison::default();
+    for number in 0..strips {
+        match run::strip_reads::case(seed, number) {
+            Err(contradiction) => tally.contradiction(number, 0, &contradiction),
+            Ok(case) => {
+                let read = calls::ReadBack::of(&case.strip);
+                tally.add(number, &case, &read);
+                if let Some(library) = &library {
+                    comparison.case(number, &case.strip, &read, library);
+                }
+            }
+        }
+    }
+    print!("{tally}");
+    if library.is_some() {
+        print!("{comparison}");
+    }
+    println!("{:.1} s", began.elapsed().as_secs_f64());
+    if tally.contradictions() + comparison.differences() == 0 { ExitCode::SUCCESS } else { ExitCode::FAILURE }
+}
+
+#[cfg(feature = "library")]
 fn bench(only: &str) -> ExitCode {
     run::bench::bench(&library::Library, only);
     run::asset_bench::bench(library::asset_reference_index_for_path, only);
+    run::strip_read_bench::bench(&library::Library, only);
     ExitCode::SUCCESS
 }
 
@@ -120,14 +160,16 @@ fn bench(only: &str) -> ExitCode {
 fn profile(shape: &str, n: Option<u64>, output: Output) -> ExitCode {
     let n = n.map(|n| n as usize);
     let look_up = run::asset_bench::profile(library::asset_reference_index_for_path, shape, n);
+    let read_back = || run::strip_read_bench::profile(&library::Library, shape, n);
     let strip = || run::bench::profile(&library::Library, shape, n.unwrap_or(10_000), output);
-    match look_up.map_or_else(strip, Ok) {
+    match look_up.or_else(read_back).map_or_else(strip, Ok) {
         Ok(told) => {
             println!("{told}");
             ExitCode::SUCCESS
         }
         Err(names) => {
-            eprintln!("the shapes: {names}, {}", run::asset_bench::names());
+            let others = [run::asset_bench::names(), run::strip_read_bench::names()];
+            eprintln!("the shapes: {names}, {}", others.join(", "));
             ExitCode::FAILURE
         }
     }

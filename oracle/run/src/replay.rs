@@ -1,9 +1,10 @@
-//! What `crates/replay` is given and is to write: the sample of the readers' answers, then those of strip calls and of look-ups.
+//! What `crates/replay` is given and is to write: the sample of the readers' answers, then those of strip calls, of look-ups
+//! and of strips read back.
 
 use std::path::Path;
 use std::{fs, io};
 
-use crate::{asset_vectors, strip_vectors, vectors};
+use crate::{asset_vectors, strip_read_vectors, strip_vectors, vectors};
 
 pub struct Files {
     /// Each by its path from the crate's folder.
@@ -14,7 +15,9 @@ pub struct Files {
 
 pub fn files() -> Files {
     let (mut files, mut stdout, mut told) = (Vec::new(), String::new(), String::new());
-    for sample in [vectors::written(), strip_vectors::written(), asset_vectors::written()] {
+    let samples =
+        [vectors::written(), strip_vectors::written(), asset_vectors::written(), strip_read_vectors::written()];
+    for sample in samples {
         files.extend(sample.data.map(|(name, bytes)| (format!("data/{name}"), bytes)));
         stdout += &sample.stdout;
         told += &sample.told;

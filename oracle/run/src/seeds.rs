@@ -1,4 +1,4 @@
-//! Generated sections, and paths with lists, as files for the fuzzer, each with the header of `fuzz/harness.c` before it.
+//! Generated sections, paths with lists, and strips, as files for the fuzzer, each with the header of `fuzz/harness.c` before it.
 
 use std::path::Path;
 use std::{fs, io};
@@ -7,9 +7,9 @@ use generate::prng::Prng;
 use generate::sound::{Sizes, model};
 use generate::{Case, Kind, assets, case};
 
-use crate::asset_cases;
+use crate::{asset_cases, strip_read_cases, strip_reads};
 
-/// Longer sections, and paths with longer lists, only slow the fuzzer down.
+/// Longer sections and strips, and paths with longer lists, only slow the fuzzer down.
 const LONGEST: usize = 4_000;
 /// The bytes of a header.
 const HEADER: usize = 16;
@@ -19,13 +19,14 @@ const SMALL_START: u64 = 240;
 /// One case in so many is taken, so that truncations and damaged bytes of many sections and places are among them.
 const STEP: usize = 37;
 
-/// So many sections for one generated path with its list.
+/// So many sections for one generated path with its list, and for one strip.
 const SECTIONS: u64 = 5;
 
 /// An answer is short of fewer places than these.
 const SHORT_OF: usize = 47;
 
-/// Writes so many sections, none of them longer than the fuzzer takes, some that end close behind a payload, and paths with lists.
+/// Writes so many sections, none of them longer than the fuzzer takes, some that end close behind a payload, paths with lists, and
+/// strips.
 pub fn write(folder: &Path, files: u64, seed: u64) -> io::Result<String> {
     fs::create_dir_all(folder)?;
     let short = (0..)
@@ -53,9 +54,17 @@ pub fn write(folder: &Path, files: u64, seed: u64) -> io::Result<String> {
         header[14..].copy_from_slice(&(case.path.len() as u16).to_le_bytes());
         fs::write(folder.join(format!("{seed}-path-{turn}")), [&header[..], &case.path, &case.list].concat())?;
     }
-    let (close, paths) = (close.len(), paths.len());
+    let strips = strips(files / SECTIONS, seed);
+    for (turn, strip) in strips.iter().enumerate() {
+        // Any track and key, or huge numbers; of a strip that is read the harness takes a key that is there besides.
+        let mut header = header(&Case { kind: Kind::Model, label: String::new(), section: Vec::new(), start: 0 }, turn);
+        header[7] = (turn as u8 & 3) << 4 | turn as u8 & 2;
+        header[8..12].copy_from_slice(&[[turn as u8 / 4 % 3, 0, turn as u8 / 12, 0], [255; 4]][turn / 36 % 2]);
+        fs::write(folder.join(format!("{seed}-strip-{turn}")), [&header[..], strip].concat())?;
+    }
+    let (close, paths, strips) = (close.len(), paths.len(), strips.len());
     Ok(format!(
-        "{files} files, {bytes} bytes of sections, {close} that end close behind a payload, and {paths} paths with lists\n"
+        "{files} files, {bytes} bytes of sections, {close} that end close behind a payload, {paths} paths with lists, {strips} strips\n"
     ))
 }
 
@@ -77,6 +86,14 @@ fn header(case: &Case, turn: usize) -> [u8; HEADER] {
 fn paths(generated: u64, seed: u64) -> Vec<assets::Case> {
     let short = (0..).map(|number| assets::case(seed, number)).filter(|case| case.length() <= LONGEST);
     let by_hand = asset_cases::cases().into_iter().map(|(case, _)| case);
+    by_hand.chain(short.take(generated as usize)).collect()
+}
+
+/// Those by hand, and so many that are generated.
+fn strips(generated: u64, seed: u64) -> Vec<Vec<u8>> {
+    let any = |number| strip_reads::case(seed, number).expect("no contradiction").strip;
+    let short = (0..).map(any).filter(|strip| strip.len() <= LONGEST);
+    let by_hand = strip_read_cases::cases().into_iter().map(|(strip, _)| strip);
     by_hand.chain(short.take(generated as usize)).collect()
 }
 

@@ -8,6 +8,7 @@ const ROOM_FOR_CHECKS: usize = 65_536;
 pub const ROOM_FOR_PLACES: usize = 64;
 pub const ROOM_FOR_NUMBERS: usize = 64;
 pub const ROOM_FOR_BYTES: usize = 4_096;
+pub const ROOM_FOR_ROWS: usize = 256;
 
 /// A sample, as the program that replays it is given it, and what the program is to write of it.
 pub struct Sample {

@@ -7,7 +7,7 @@ use answers::Kind;
 use generate::asset_lists::FAMILIES;
 use run::assets::{expected, shown};
 use run::strip_vectors::{outcomes, sample};
-use run::{asset_cases, asset_vectors, replay, strip_cases};
+use run::{asset_cases, asset_vectors, replay, strip_cases, strip_read_vectors};
 
 /// Each refusal that a program can meet, of bones and of morphs where both have it; 17 and 18 come with every section that
 /// has records, and with every accepted one.
@@ -40,6 +40,21 @@ fn look_ups() {
     for (family, _) in FAMILIES {
         assert!(families.get(family).is_some_and(|look_ups| *look_ups > 4), "{family}");
     }
+}
+
+/// Each refusal of a strip that is read back has several strips, by hand and generated; accepted are long ones too.
+#[test]
+fn strips_read_back() {
+    let sample = strip_read_vectors::sample();
+    let outcomes = strip_read_vectors::outcomes(&sample);
+    for number in [0, 23, 24, 25] {
+        let of = |by_hand: bool| {
+            let of = outcomes.iter().filter(|((family, of), _)| *of == number && by_hand == (*family == "by hand"));
+            of.map(|(_, strips)| strips).sum::<usize>()
+        };
+        assert!(of(true) > 10 && of(false) > 20, "{number}");
+    }
+    assert!(sample.iter().any(|vector| vector.section.len() > 3_000));
 }
 
 /// What is stored is what is written now.

@@ -7,7 +7,6 @@ use std::io;
 use limdroven::Refusal;
 
 use crate::json::Json;
-use crate::stored::Malformed;
 
 pub const FILE_STATUS: u8 = 4;
 
@@ -25,9 +24,11 @@ pub enum Failure {
         file: String,
         error: io::Error,
     },
-    Malformed {
+    /// The library's refusal of a strip that is to be compared, also in words.
+    MalformedStrip {
         file: String,
-        malformed: Malformed,
+        refusal: Refusal,
+        words: String,
     },
     /// A line, counted from 1, that is no reference.
     Line {
@@ -58,7 +59,7 @@ impl Failure {
             Self::Usage(_) => 2,
             Self::Refused { .. } => 3,
             Self::File { .. } => FILE_STATUS,
-            Self::Malformed { .. } | Self::Line { .. } => 5,
+            Self::MalformedStrip { .. } | Self::Line { .. } => 5,
             Self::Project { .. } => 6,
         }
     }
@@ -68,7 +69,7 @@ impl Failure {
             Self::Usage(_) => "usage",
             Self::Refused { .. } => "refused",
             Self::File { .. } => "file",
-            Self::Malformed { .. } | Self::Line { .. } => "malformed",
+            Self::MalformedStrip { .. } | Self::Line { .. } => "malformed",
             Self::Project { .. } => "project",
         }
     }
@@ -88,8 +89,8 @@ impl Failure {
                 ]
             }
             Self::File { file, .. } | Self::Project { file, .. } => vec![("file", Json::text(file))],
-            Self::Malformed { file, malformed } => {
-                vec![("file", Json::text(file)), ("offset", Json::number(malformed.offset))]
+            Self::MalformedStrip { file, refusal, .. } => {
+                vec![("file", Json::text(file)), ("number", Json::number(refusal.number()))]
             }
             Self::Line { file, line, .. } => vec![("file", Json::text(file)), ("line", Json::number(*line))],
         }
@@ -105,7 +106,7 @@ impl fmt::Display for Failure {
                 write!(formatter, "{}{model}: {words}", told(file))
             }
             Self::File { file, error } => write!(formatter, "{}: {error}", told(file)),
-            Self::Malformed { file, malformed } => write!(formatter, "{}: {malformed}", told(file)),
+            Self::MalformedStrip { file, words, .. } => write!(formatter, "{}: malformed strip: {words}", told(file)),
             Self::Line { file, line, words } => {
                 write!(formatter, "{}: malformed list at line {line}: {words}", told(file))
             }

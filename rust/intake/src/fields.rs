@@ -1,77 +1,97 @@
-//! The fields of a key in a strip: document 01, "The strip".
+//! The fields of a strip's key.
 
-use limdroven::Kind;
+use std::fmt;
 
-/// A field that stands in a key unless it is plain.
-#[derive(Debug)]
-pub struct Field {
-    /// As in README's account of the map.
+use limdroven::{StripKey, StripRow};
+
+use crate::json::Json;
+
+/// What is compared of two strips.
+#[derive(Debug, Clone, Copy)]
+pub struct Item {
+    /// A field's as in README's account of the map.
     pub words: &'static str,
     /// As in JSON.
     pub name: &'static str,
-    pub form: Form,
 }
 
-#[derive(Debug)]
-pub enum Form {
-    /// Of these plain values.
-    Floats(&'static [f32]),
-    /// So many curves.
-    Curves(usize),
+#[derive(Debug, PartialEq, Eq)]
+pub enum Value {
+    Number(usize),
+    /// Left out of the strip.
+    Plain,
+    /// By their bits, which also tell the signs of zero apart.
+    Floats(Vec<u32>),
+    Curves(Vec<[u8; 4]>),
 }
-
-const PLAIN_CURVE: [u8; 4] = [20, 20, 107, 107];
-
-const BONE_FIELDS: [Field; 4] = [
-    Field { words: "translation", name: "translation", form: Form::Floats(&[0.0; 3]) },
-    Field { words: "orientation", name: "orientation", form: Form::Floats(&[0.0, 0.0, 0.0, 1.0]) },
-    Field { words: "movement curves", name: "movement_curves", form: Form::Curves(3) },
-    Field { words: "rotation curve", name: "rotation_curve", form: Form::Curves(1) },
-];
-const MORPH_FIELDS: [Field; 1] = [Field { words: "weight", name: "weight", form: Form::Floats(&[0.0]) }];
 
 /// In the order of the map's bits.
-pub fn fields(kind: Kind) -> &'static [Field] {
-    match kind {
-        Kind::Bone => &BONE_FIELDS,
-        Kind::Morph => &MORPH_FIELDS,
-    }
+pub fn fields(key: &StripKey) -> Vec<(Item, Value)> {
+    let fields = match key {
+        StripKey::Bone(key) => vec![
+            ("translation", "translation", floats(&key.translation_bits())),
+            ("orientation", "orientation", floats(&key.orientation_bits())),
+            ("movement curves", "movement_curves", curves(&key.curves[..3])),
+            ("rotation curve", "rotation_curve", curves(&key.curves[3..])),
+        ],
+        StripKey::Morph(key) => vec![("weight", "weight", floats(&[key.weight_bits()]))],
+    };
+    let stands = |bit: usize| key.map() >> bit & 1 == 1;
+    let or_plain = |(bit, (words, name, value))| (Item { words, name }, if stands(bit) { value } else { Value::Plain });
+    fields.into_iter().enumerate().map(or_plain).collect()
 }
 
-pub fn floats(bytes: &[u8]) -> Vec<f32> {
-    bytes.as_chunks().0.iter().map(|four| f32::from_le_bytes(*four)).collect()
+/// A key as it is listed, every field with its values.
+pub fn object(row: &StripRow) -> Json {
+    let StripRow { track, key, .. } = row;
+    let mut keys = vec![
+        ("kind", Json::text(track.kind().to_string())),
+        ("track", Json::number(track.number())),
+        ("frame", Json::number(key.frame())),
+        ("map", Json::number(key.map())),
+    ];
+    match key {
+        StripKey::Bone(key) => keys.extend([
+            ("translation", floats(&key.translation_bits()).json()),
+            ("orientation", floats(&key.orientation_bits()).json()),
+            ("curves", curves(&key.curves).json()),
+        ]),
+        StripKey::Morph(key) => keys.push(("weight", Json::Float(key.weight))),
+    }
+    Json::Object(keys)
 }
 
-impl Field {
-    pub fn width(&self) -> usize {
-        match self.form {
-            Form::Floats(plain) => 4 * plain.len(),
-            Form::Curves(count) => 4 * count,
-        }
-    }
+fn floats(bits: &[u32]) -> Value {
+    Value::Floats(bits.to_vec())
+}
 
-    /// What the strip call never writes: a plain field, and what 12 to 14 and the rule of 127 shut out.
-    pub fn fault(&self, bytes: &[u8]) -> Option<&'static str> {
-        match self.form {
-            Form::Floats(plain) => {
-                let floats = floats(bytes);
-                if floats == plain {
-                    return Some(PLAIN);
-                }
-                if floats.iter().any(|float| !float.is_finite()) {
-                    return Some("a float is not finite");
-                }
-                too_short(&floats).then_some("it is too short")
+fn curves(curves: &[[u8; 4]]) -> Value {
+    Value::Curves(curves.to_vec())
+}
+
+impl Value {
+    pub fn json(&self) -> Json {
+        match self {
+            Self::Number(number) => Json::number(*number),
+            Self::Plain => Json::text("plain"),
+            Self::Floats(bits) => Json::List(bits.iter().map(|bits| Json::Float(f32::from_bits(*bits))).collect()),
+            Self::Curves(curves) => {
+                Json::List(curves.iter().map(|curve| Json::List(curve.map(Json::number).to_vec())).collect())
             }
-            Form::Curves(count) if bytes == PLAIN_CURVE.repeat(count) => Some(PLAIN),
-            Form::Curves(_) => bytes.iter().any(|byte| *byte > 127).then_some("a byte is above 127"),
         }
     }
 }
 
-const PLAIN: &str = "a plain field is written out";
-
-/// An orientation whose squared length is not above 2^-23, added up in document 01's order.
-fn too_short(floats: &[f32]) -> bool {
-    matches!(*floats, [x, y, z, w] if ((x * x + y * y) + z * z) + w * w <= f32::EPSILON)
+/// Floats in the shortest digits that give them again, so that different ones are told apart.
+impl fmt::Display for Value {
+    fn fmt(&self, formatter: &mut fmt::Formatter<'_>) -> fmt::Result {
+        match self {
+            Self::Number(number) => write!(formatter, "{number}"),
+            Self::Plain => formatter.write_str("plain"),
+            Self::Floats(bits) => {
+                formatter.debug_list().entries(bits.iter().map(|bits| f32::from_bits(*bits))).finish()
+            }
+            Self::Curves(curves) => write!(formatter, "{curves:?}"),
+        }
+    }
 }

@@ -37,8 +37,7 @@ impl Lent {
     }
 
     fn whole(input: &mut dyn Read, file: String, start: usize) -> Result<Self, Failure> {
-        // One byte more than the library takes is enough for it to refuse all that are longer.
-        let bytes = read(input, MOST_BYTES + 1).map_err(failed(&file))?;
+        let bytes = all(input, &file)?;
         Ok(Self { file, bytes, start, base: 0, model: None })
     }
 
@@ -77,6 +76,16 @@ impl Lent {
         let hint = project.map(|project| format!(" (this looks like {project})")).unwrap_or_default();
         words + &hint
     }
+}
+
+/// A file's bytes, to be lent to the library whole.
+pub fn lent(path: &OsStr) -> Result<Vec<u8>, Failure> {
+    all(&mut *open(path)?, &named(path))
+}
+
+/// One byte more than the library takes is enough for it to refuse all that are longer.
+pub fn all(input: &mut dyn Read, file: &str) -> Result<Vec<u8>, Failure> {
+    read(input, MOST_BYTES + 1).map_err(failed(file))
 }
 
 pub fn open(path: &OsStr) -> Result<Box<dyn Read>, Failure> {

@@ -2,6 +2,10 @@
 
 use std::fmt::{self, Write};
 
+use limdroven::StripRow;
+
+use crate::fields;
+
 #[derive(Debug, Clone, PartialEq)]
 pub enum Json {
     Null,
@@ -10,6 +14,8 @@ pub enum Json {
     Float(f32),
     Text(String),
     List(Vec<Json>),
+    /// A list of objects, each made as it is written: together they would take many times the room of their keys.
+    Keys(Vec<StripRow>),
     Object(Vec<(&'static str, Json)>),
 }
 
@@ -31,11 +37,8 @@ impl fmt::Display for Json {
             // The shortest digits that give the float again: two floats of different bits are written differently.
             Self::Float(float) => write!(formatter, "{float:?}"),
             Self::Text(text) => quoted(text, formatter),
-            Self::List(items) => {
-                formatter.write_char('[')?;
-                separated(items, formatter, |item, formatter| item.fmt(formatter))?;
-                formatter.write_char(']')
-            }
+            Self::List(items) => list(items, formatter, |item, formatter| item.fmt(formatter)),
+            Self::Keys(rows) => list(rows, formatter, |row, formatter| fields::object(row).fmt(formatter)),
             Self::Object(keys) => {
                 formatter.write_char('{')?;
                 separated(keys, formatter, |(key, value), formatter| {
@@ -46,6 +49,16 @@ impl fmt::Display for Json {
             }
         }
     }
+}
+
+fn list<T>(
+    items: &[T],
+    formatter: &mut fmt::Formatter<'_>,
+    write: impl Fn(&T, &mut fmt::Formatter<'_>) -> fmt::Result,
+) -> fmt::Result {
+    formatter.write_char('[')?;
+    separated(items, formatter, write)?;
+    formatter.write_char(']')
 }
 
 fn separated<T>(
@@ -72,4 +85,37 @@ fn quoted(text: &str, formatter: &mut fmt::Formatter<'_>) -> fmt::Result {
         }
     }
     formatter.write_char('"')
+}
+
+#[cfg(test)]
+mod tests {
+    use limdroven::strip_keys;
+
+    use super::Json;
+
+    /// With a fraction or an exponent, and the same bits when read again.
+    #[test]
+    fn floats() {
+        let signed = |float: f32| [float, -float];
+        for float in
+            [0.0, 1.0, 0.1, 1e16, 1e-7, f32::MAX, f32::MIN_POSITIVE, f32::from_bits(1)].map(signed).as_flattened()
+        {
+            let text = Json::Float(*float).to_string();
+            assert!(text.contains(['.', 'e']), "{text}");
+            assert_eq!(text.parse::<f32>().expect("a float").to_bits(), float.to_bits(), "{text}");
+        }
+        assert_eq!(Json::Float(-0.0).to_string(), "-0.0");
+    }
+
+    /// An object for each key; the morph's key has the plain weight.
+    #[test]
+    fn keys() {
+        assert_eq!(Json::Keys(vec![]).to_string(), "[]");
+        let strip = [&[0, 0, 1, 0, 2, 0][..], &[7, 0, 0, 0, 0], &[8, 0, 0, 0, 1, 0, 0, 0, 63]].concat();
+        let keys = Json::Keys(strip_keys(&strip).expect("read"));
+        let key = |frame, map, weight| {
+            format!("{{\"kind\":\"morph\",\"track\":0,\"frame\":{frame},\"map\":{map},\"weight\":{weight}}}")
+        };
+        assert_eq!(keys.to_string(), format!("[{},{}]", key(7, 0, "0.0"), key(8, 1, "0.5")));
+    }
 }

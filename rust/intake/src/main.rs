@@ -1,6 +1,6 @@
 //! The command line over the proved library. What is done here, outside the proofs: arguments and files, the walk over a
-//! project's model sections, the reading and comparing of stored strips, lists of references read from lines, and what is
-//! printed.
+//! project's model sections, the counting of a strip's tracks by their keys and the comparing of strips, key by key, lists of
+//! references read from lines, and what is printed.
 
 #![forbid(unsafe_code)]
 
@@ -44,6 +44,7 @@ fn main() -> ExitCode {
 fn run(options: &Options) -> u8 {
     let (report, stream) = match &options.command {
         Command::List(section) => (list::list(section), Stream::Output),
+        Command::ListStrip(file) => (list::list_strip(file), Stream::Output),
         Command::Strip(section, output) => (strip::strip(section, output), Stream::beside(output)),
         Command::Compare(first, second) => (compare::compare(first, second), Stream::Output),
         Command::Reference(section, references) => (reference::reference(section, references), Stream::Output),

@@ -20,6 +20,7 @@ pub struct Options {
 #[derive(Debug, PartialEq, Eq)]
 pub enum Command {
     List(Section),
+    ListStrip(OsString),
     /// The section, and where the strip goes.
     Strip(Section, OsString),
     Compare(OsString, OsString),
@@ -59,6 +60,7 @@ struct Given {
     start: Option<OsString>,
     model: Option<OsString>,
     output: Option<OsString>,
+    strip: bool,
     lines: bool,
     json: bool,
     help: bool,
@@ -105,6 +107,7 @@ pub fn parse(arguments: &[OsString]) -> Result<Asked, String> {
             let output = given.output.clone().ok_or("strip: -o OUT is missing")?;
             Command::Strip(section(subcommand, given)?, output)
         }
+        _ if given.strip => list_strip(given)?,
         _ => Command::List(section(subcommand, given)?),
     };
     Ok(Asked::Run(Options { command, json }))
@@ -121,6 +124,10 @@ fn given(arguments: &[OsString]) -> Result<Given, String> {
             }
             Some("--json") => {
                 given.json = true;
+                continue;
+            }
+            Some("--strip") => {
+                given.strip = true;
                 continue;
             }
             Some("--lines") => {
@@ -158,7 +165,7 @@ fn is_option(argument: &OsStr) -> bool {
 /// An option that others take and this one does not.
 fn not_taken(subcommand: &str, given: &Given) -> Option<&'static str> {
     let taken: &[&str] = match subcommand {
-        "list" => &["--start", "--model"],
+        "list" => &["--start", "--model", "--strip"],
         "strip" => &["--start", "--model", "-o"],
         "reference" => &["--start", "--model", "--lines"],
         _ => &[],
@@ -167,6 +174,7 @@ fn not_taken(subcommand: &str, given: &Given) -> Option<&'static str> {
         ("--start", given.start.is_some()),
         ("--model", given.model.is_some()),
         ("-o", given.output.is_some()),
+        ("--strip", given.strip),
         ("--lines", given.lines),
     ];
     options.into_iter().find(|(option, is_given)| *is_given && !taken.contains(option)).map(|(option, _)| option)
@@ -176,6 +184,16 @@ fn section(subcommand: &str, given: Given) -> Result<Section, String> {
     let at = at(&given)?;
     let [file] = files(subcommand, "one file", given)?;
     Ok(Section { file, at })
+}
+
+fn list_strip(given: Given) -> Result<Command, String> {
+    for (option, is_given) in [("--start", given.start.is_some()), ("--model", given.model.is_some())] {
+        if is_given {
+            return Err(format!("--strip and {option} exclude each other"));
+        }
+    }
+    let [file] = files("list", "one file", given)?;
+    Ok(Command::ListStrip(file))
 }
 
 fn at(given: &Given) -> Result<At, String> {

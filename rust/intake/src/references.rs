@@ -5,7 +5,7 @@ use std::io::{self, BufRead, BufReader, Read};
 use limdroven::{AssetList, MOST_BYTES};
 
 use crate::failure::{Failure, named};
-use crate::input::{self, failed, open};
+use crate::input::{all, failed, open};
 use crate::options::References;
 
 /// The list's bytes. Where there are more than the library takes, the file is read no further: it refuses them all.
@@ -15,7 +15,7 @@ pub fn read(references: &References) -> Result<Vec<u8>, Failure> {
     if references.lines {
         return lines(BufReader::new(input), &file);
     }
-    input::read(&mut *input, MOST_BYTES + 1).map_err(failed(&file))
+    all(&mut *input, &file)
 }
 
 /// Whether a list's bytes begin as text does that `--lines` reads.

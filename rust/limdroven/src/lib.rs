@@ -1,6 +1,6 @@
-//! The proved readers of PMM sections, the strip call and the look-up of a model's path among asset references, as safe
-//! Rust over the static libraries `exports` and `strip_export`. Every section, start, number and slice is taken, and each
-//! call gives its answer or a [`Refusal`] of documents 01 and 02.
+//! The proved readers of PMM sections, the strip call, the reader of stored strips and the look-up of a model's path among
+//! asset references, as safe Rust over the static libraries `exports` and `strip_export`. Every section, start, strip, number
+//! and slice is taken, and each call gives its answer or a [`Refusal`] of documents 01 and 02.
 //!
 //! A section is lent as the bytes that hold it and the offset `start` at which it begins; all offsets count from the start
 //! of these bytes. Records, states and names are asked for by number, from 0. A float has the section's own bits, also if
@@ -13,6 +13,9 @@
 //! assert_eq!(refusal.to_string(), "refused 1: the bytes end before the value at offset 339 is whole");
 //! # Ok::<(), limdroven::Refusal>(())
 //! ```
+//!
+//! What a stored strip holds is told by [`strip_counts`], [`strip_key_count`] and [`strip_key`], and all its keys at once by
+//! [`strip_keys`](strip_keys()).
 //!
 //! [`asset_reference_index_for_path`] takes no section but a path, such as [`path`] hands back, and a list of references,
 //! which [`AssetList`] makes.
@@ -30,6 +33,7 @@ pub mod raw;
 mod refusal;
 mod states;
 mod strip;
+mod strip_keys;
 mod summary;
 mod texts;
 mod track;
@@ -39,9 +43,10 @@ pub use keyframes::*;
 pub use refusal::{Kind, Refusal};
 pub use states::*;
 pub use strip::{Built, Strip, strip, strip_into};
+pub use strip_keys::*;
 pub use summary::*;
 pub use texts::*;
 pub use track::*;
 
-/// More bytes than these, lent with a section, as a path or as a list of references, are refused with 16.
+/// More bytes than these, lent with a section, as a path, as a list of references or as a strip, are refused with 16.
 pub const MOST_BYTES: usize = 16_777_215;

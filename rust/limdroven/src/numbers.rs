@@ -26,6 +26,7 @@ macro_rules! single {
 single! {
     usize: number => number as usize;
     u8: number => number as u8;
+    u32: number => number as u32;
     i32: number => number as u32 as i32;
     // The section's own bits, those of a signalling NaN too: nothing is worked out with it.
     f32: number => f32::from_bits(number as u32);
@@ -129,6 +130,9 @@ mod tests {
         assert_eq!(CameraKeyframeSummary::COUNT, 32);
         assert_eq!(LightKeyframeSummary::COUNT, 20);
         assert_eq!(Built::COUNT, 3);
+        assert_eq!(StripCounts::COUNT, 2);
+        assert_eq!(BoneKey::COUNT, 13);
+        assert_eq!(StripRow::COUNT, 16);
         assert_eq!(<Option<usize>>::COUNT, 1);
     }
 }

@@ -1,30 +1,35 @@
 //! The library's calls as C declares them (crates/exports/include/limdroven.h, crates/strip_export/include/limdroven_strip.h),
 //! each taking slices. What is returned and written is the library's own. All `unsafe` of the crate is here.
 
+/// Calls that are lent bytes and numbers, and a slice that they write.
 macro_rules! declared {
-    ($($symbol:ident $name:ident($($argument:ident: $type:ty),*; $slice:ident: $item:ty) -> $result:ty;)*) => {
+    ($($symbol:ident $name:ident($lent:ident $(, $argument:ident: $type:ty)*; $slice:ident: $item:ty) -> $result:ty;)*) => {
         unsafe extern "C" {
             $(fn $symbol(
-                section: *const u8,
-                section_length: usize,
-                start: usize,
+                $lent: *const u8,
+                lent_length: usize,
                 $($argument: $type,)*
                 $slice: *mut $item,
                 length: usize,
             ) -> $result;)*
         }
 
-        $(pub fn $name(section: &[u8], start: usize, $($argument: $type,)* $slice: &mut [$item]) -> $result {
+        $(pub fn $name($lent: &[u8], $($argument: $type,)* $slice: &mut [$item]) -> $result {
             // SAFETY: both pointers are those of slices with these lengths, which live through the call and, as one of them
             // is borrowed mutably, do not overlap; the library reads and writes nothing outside them.
-            unsafe {
-                $symbol(section.as_ptr(), section.len(), start, $($argument,)* $slice.as_mut_ptr(), $slice.len())
-            }
+            unsafe { $symbol($lent.as_ptr(), $lent.len(), $($argument,)* $slice.as_mut_ptr(), $slice.len()) }
         })*
     };
 }
 
-declared! {
+/// Those that are lent a section, which begins at an offset of the bytes.
+macro_rules! of_section {
+    ($($symbol:ident $name:ident($($argument:ident: $type:ty),*; $slice:ident: $item:ty) -> $result:ty;)*) => {
+        declared! { $($symbol $name(section, start: usize $(, $argument: $type)*; $slice: $item) -> $result;)* }
+    };
+}
+
+of_section! {
     limdroven_model_summary model_summary(; values: u64) -> u32;
     limdroven_bone_keyframe bone_keyframe(include_index: bool, number: usize; values: u64) -> u32;
     limdroven_morph_keyframe morph_keyframe(include_index: bool, number: usize; values: u64) -> u32;
@@ -58,6 +63,40 @@ declared! {
     limdroven_light_payload light_payload(include_index: bool, number: usize; output: u8) -> usize;
     limdroven_camera_interpolation camera_interpolation(include_index: bool, number: usize; output: u8) -> usize;
     limdroven_bone_interpolation bone_interpolation(include_index: bool, number: usize; output: u8) -> usize;
+}
+
+declared! {
+    limdroven_strip_counts strip_counts(strip; values: u64) -> u32;
+    limdroven_strip_key_count strip_key_count(strip, kind: u32, track: u32; values: u64) -> u32;
+    limdroven_strip_key strip_key(strip, kind: u32, track: u32, place: usize; values: u64) -> u32;
+}
+
+unsafe extern "C" {
+    fn limdroven_strip_keys(
+        strip: *const u8,
+        strip_length: usize,
+        first: usize,
+        rows: *mut u32,
+        rows_length: usize,
+        values: *mut u64,
+        values_length: usize,
+    ) -> u32;
+}
+
+pub fn strip_keys(strip: &[u8], first: usize, rows: &mut [u32], values: &mut [u64]) -> u32 {
+    // SAFETY: the pointers are those of slices with these lengths, which live through the call and, as all but the strip
+    // are borrowed mutably, do not overlap; the library reads and writes nothing outside them.
+    unsafe {
+        limdroven_strip_keys(
+            strip.as_ptr(),
+            strip.len(),
+            first,
+            rows.as_mut_ptr(),
+            rows.len(),
+            values.as_mut_ptr(),
+            values.len(),
+        )
+    }
 }
 
 unsafe extern "C" {

@@ -101,13 +101,14 @@ refusals! {
     14 InvalidWeight { track: usize, frame: i32 }
     /// Records that no chain reaches have a nonzero link.
     15 Disconnected { kind: Kind, count: usize }
-    /// More bytes than [`MOST_BYTES`](crate::MOST_BYTES) are lent with a section, as a path or as a list of references.
+    /// More bytes than [`MOST_BYTES`](crate::MOST_BYTES) are lent with a section, as a path, as a list of references or as a
+    /// strip to be read.
     16 TooLong
     /// A work slice has too few places.
     17 WorkTooShort { need: usize }
     /// The output is shorter than the strip.
     18 OutputTooShort { need: usize }
-    /// There is no record, name, state or entry of that number.
+    /// There is no record, name, state, entry, track or key of that number.
     19 Absent
     /// A count is above its limit.
     20 CountAboveLimit { offset: usize }
@@ -115,6 +116,14 @@ refusals! {
     21 ListCutOff
     /// A byte above 127 stands in the path, or in the text of a reference of any kind.
     22 NotAscii
+    /// A strip ends early, or bytes are left over behind its last track.
+    23 StripNotWhole
+    /// A bone's map byte in a strip is above 15, or a morph's above 1.
+    24 UnknownMap
+    /// A strip has what the strip call never writes: a field that is plain, a curve byte above 127, a float that is not
+    /// finite, an orientation that is too short, a frame above 2,147,483,647 or repeated in its track, a track without keys,
+    /// or more than 65,534 keys of one kind besides each track's first.
+    25 NeverWritten
 }
 
 impl Refusal {
@@ -184,10 +193,20 @@ impl fmt::Display for Refusal {
             Self::TooLong => write!(formatter, "more than {} bytes", crate::MOST_BYTES),
             Self::WorkTooShort { need } => write!(formatter, "a work slice has fewer than the {need} places needed"),
             Self::OutputTooShort { need } => write!(formatter, "the output is shorter than the strip's {need} bytes"),
-            Self::Absent => write!(formatter, "there is no record, name, state or entry of that number"),
+            Self::Absent => write!(formatter, "there is no record, name, state, entry, track or key of that number"),
             Self::CountAboveLimit { offset } => write!(formatter, "the count at offset {offset} is above its limit"),
             Self::ListCutOff => write!(formatter, "the list of references ends inside an entry"),
             Self::NotAscii => write!(formatter, "a byte above 127 stands in the path or in a reference of the list"),
+            Self::StripNotWhole => {
+                write!(formatter, "the strip ends early, or bytes are left over behind its last track")
+            }
+            Self::UnknownMap => write!(formatter, "a bone's map byte is above 15, or a morph's above 1"),
+            Self::NeverWritten => write!(
+                formatter,
+                "the strip has what the strip call never writes: a plain field, a curve byte above 127, a float that is not \
+                 finite, an orientation that is too short, a frame above 2147483647 or repeated in its track, a track \
+                 without keys, or more than 65534 keys of one kind besides each track's first"
+            ),
         }
     }
 }

@@ -1,7 +1,7 @@
 //! `intake compare`: the first place where two strips differ.
 
 use crate::command::{Ran, file, intake, intake_with};
-use crate::json::{self, Json};
+use crate::json::{self, Json, numbers};
 use crate::strips::*;
 
 /// The strip by hand compared with another, in words and as JSON.
@@ -29,10 +29,6 @@ fn without(at: usize, length: usize, map_at: usize, map: u8) -> Vec<u8> {
     let mut strip = with(map_at, &[map]);
     strip.drain(at..at + length);
     strip
-}
-
-fn numbers(list: &[&str]) -> Json {
-    Json::List(list.iter().map(|number| Json::Number((*number).into())).collect())
 }
 
 #[test]

@@ -1,4 +1,5 @@
-//! Generated sections: a strip that the library builds is never called malformed, and the exit status follows the bytes.
+//! Generated sections: a strip that the library builds is listed as its section is and never called malformed, and the exit
+//! status follows the bytes.
 
 use generate::Kind;
 use limdroven::{model_summary, strip};
@@ -20,6 +21,12 @@ fn lists() {
                 assert_eq!((ran.status, ran.error.as_str()), (0, ""), "{family} {number}");
                 assert!(ran.text().ends_with(&last), "{family} {number}");
                 assert_eq!(ran.text().lines().count(), keys + 2, "{family} {number}");
+                let lines = ran.text().split_inclusive('\n').skip(1).take(keys).collect::<String>();
+                let (bones, morphs, length) = (summary.bone_count, summary.morph_count, strip.bytes.len());
+                let ran = intake_with(&["list", "--strip", "-"], &strip.bytes);
+                assert_eq!((ran.status, ran.error.as_str()), (0, ""), "{family} {number}");
+                let listing = format!("strip {bones} {morphs} {length}\n{lines}keys {keys}\n");
+                assert_eq!(ran.text(), listing, "{family} {number}");
                 accepted += 1;
             }
             Err(refusal) => {
@@ -55,7 +62,7 @@ fn compares() {
     }
 }
 
-/// One bit of the sample's strip changed: it differs, or is malformed.
+/// One bit of the sample's strip changed: it is listed and differs, or it is refused and malformed.
 #[test]
 fn changed_bits() {
     let strip = strip(&sample("stdin"), 0).expect("built").bytes;
@@ -65,7 +72,8 @@ fn changed_bits() {
             let mut changed = strip.clone();
             changed[at] ^= 1 << bit;
             let ran = intake_with(&["compare", &path, "-"], &changed);
-            assert!([1, 5].contains(&ran.status), "{at} {bit}: {ran:?}");
+            let listed = intake_with(&["list", "--strip", "-"], &changed);
+            assert!([(1, 0), (5, 3)].contains(&(ran.status, listed.status)), "{at} {bit}: {ran:?} {listed:?}");
         }
     }
 }

@@ -48,6 +48,11 @@ impl Json {
     }
 }
 
+/// A list of numbers, as they are written.
+pub fn numbers(list: &[&str]) -> Json {
+    Json::List(list.iter().map(|number| Json::Number((*number).into())).collect())
+}
+
 /// One value on one line that ends in a newline, and nothing else.
 pub fn line(text: &str) -> Json {
     let text = text.strip_suffix('\n').expect("a newline at the end");

@@ -123,7 +123,7 @@ fn as_json() {
     let number = |name: &str| listed.number(name);
     let mut lines = format!("model {} {} {}\n", number("bones"), number("morphs"), number("end"));
     for key in listed.list("keys") {
-        assert_eq!(key.keys(), ["kind", "track", "frame", "map"]);
+        assert_eq!(key.keys()[..4], ["kind", "track", "frame", "map"]);
         let [track, frame, map] = ["track", "frame", "map"].map(|name| key.number(name));
         lines += &format!("{} {track} {frame} {map}\n", key.text("kind"));
     }

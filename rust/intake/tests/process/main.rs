@@ -5,6 +5,8 @@ mod compare;
 mod generated;
 mod json;
 mod list;
+mod list_strip;
+mod listed_keys;
 mod malformed;
 #[cfg(unix)]
 mod output;

@@ -10,7 +10,12 @@ use crate::list::one_track;
 #[test]
 fn closed_pipe() {
     let path = file("printed closed pipe", &one_track(20_000));
-    for (arguments, front) in [(&["list", &path][..], "model"), (&["list", &path, "--json"], "{\"result")] {
+    let strip = file("printed closed pipe strip", &limdroven::strip(&one_track(20_000), 0).expect("built").bytes);
+    for (arguments, front) in [
+        (&["list", &path][..], "model"),
+        (&["list", &path, "--json"], "{\"result"),
+        (&["list", "--strip", &strip], "strip"),
+    ] {
         let mut child = Command::new(env!("CARGO_BIN_EXE_intake"))
             .args(arguments)
             .stdout(Stdio::piped())

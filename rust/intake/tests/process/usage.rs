@@ -27,6 +27,14 @@ fn arguments() {
         not_understood(&["list", "a", "--start", number], &format!("--start {number} is {what}"));
         not_understood(&["strip", "a", "-o", "b", "--model", number], &format!("--model {number} is {what}"));
     }
+    not_understood(&["list", "--strip"], "list takes one file, not 0");
+    not_understood(&["list", "--strip", "a", "b"], "list takes one file, not 2");
+    not_understood(&["list", "--strip", "a", "--start", "0"], "--strip and --start exclude each other");
+    not_understood(&["list", "--model", "0", "a", "--strip"], "--strip and --model exclude each other");
+    for arguments in [&["strip", "a", "-o", "b"][..], &["compare", "a", "b"], &["reference", "a", "b"]] {
+        let words = format!("{} takes no --strip", arguments[0]);
+        not_understood(&[arguments, &["--strip"]].concat(), &words);
+    }
     not_understood(&["strip", "a"], "strip: -o OUT is missing");
     not_understood(&["strip", "-o", "b"], "strip takes one file, not 0");
     not_understood(&["compare", "a"], "compare takes two strips, not 1");
@@ -97,13 +105,22 @@ fn help() {
     for subcommand in ["list FILE", "strip FILE", "compare A B", "reference FILE LIST"] {
         assert!(program.contains(&format!("\n  intake {subcommand} ")), "{subcommand}");
     }
-    for status in ["0  done", "1  the strips differ; the list does not", "2  ", "3  ", "4  ", "5  ", "6  "] {
+    for status in [
+        "0  done",
+        "1  the strips differ; the list does not",
+        "2  ",
+        "3  ",
+        "4  ",
+        "5  a strip to be compared is malformed",
+        "6  ",
+    ] {
         assert!(program.contains(&format!("\n  {status}")), "{status}");
     }
     for result in ["usage", "file", "project"] {
         assert!(program.contains(&format!("result \"{result}\"")), "{result}");
     }
     assert!(list.starts_with("intake list FILE [--start N | --model N] [--json]"));
+    assert!(list.contains("\nintake list --strip FILE [--json]"));
     assert!(strip.starts_with("intake strip FILE -o OUT [--start N | --model N] [--json]"));
     assert!(compare.starts_with("intake compare A B [--json]"));
     assert!(reference.starts_with("intake reference FILE LIST [--lines] [--start N | --model N] [--json]"));
@@ -139,6 +156,7 @@ fn files() {
     };
     cannot(&["list", &absent], &absent);
     cannot(&["list", &absent, "--model", "0"], &absent);
+    cannot(&["list", "--strip", &absent], &absent);
     cannot(&["strip", &absent, "-o", &place("usage unwritten")], &absent);
     let zeros = file("usage zeros", &[0; 340]);
     let unwritable = format!("{absent}/strip");

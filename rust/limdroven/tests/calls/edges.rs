@@ -72,6 +72,8 @@ fn all(section: &[u8], start: usize, number: usize) -> Vec<Result<(), Refusal>> 
 
 #[test]
 fn no_bytes() {
+    assert_eq!(strip_counts(&[]), Err(Refusal::StripNotWhole));
+    assert_eq!(strip_keys(&[]), Err(Refusal::StripNotWhole));
     for number in [0, 1, usize::MAX] {
         let answers = all(&[], 0, number);
         assert_eq!(answers.len(), 46);
@@ -122,6 +124,13 @@ fn no_places() {
     assert_eq!(raw::strip(&[], 0, &mut [], &mut [], &mut [], &mut []), 1);
     assert_eq!(raw::strip(&[0; 340], 0, &mut [], &mut [], &mut [], &mut []), 18);
     assert_eq!(raw::strip(&[0; 340], 0, &mut [], &mut [], &mut [0; 4], &mut []), 0);
+    for (strip, number) in [(&[0; 4][..], 0), (&[], 23)] {
+        let absent = if number == 0 { 19 } else { number };
+        assert_eq!(raw::strip_counts(strip, &mut []), number);
+        assert_eq!(raw::strip_keys(strip, 0, &mut [], &mut []), number);
+        assert_eq!(raw::strip_key_count(strip, 0, 0, &mut []), absent);
+        assert_eq!(raw::strip_key(strip, 0, 0, 0, &mut []), absent);
+    }
 }
 
 /// A call that answers bytes.

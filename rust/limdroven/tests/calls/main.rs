@@ -10,4 +10,7 @@ mod records;
 mod refusals;
 mod sections;
 mod stack;
+mod strip_bytes;
+mod strip_keys;
+mod strip_refusals;
 mod tracks;

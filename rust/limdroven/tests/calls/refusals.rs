@@ -1,10 +1,11 @@
-//! Every refusal that a small section can meet, 16, and those of a path and a list: number, kind, values and words.
+//! Every refusal that a small section can meet, 16, and those of a path and a list and of a strip: number, kind, values
+//! and words.
 
 use crate::sections::{bones, morphs, plain_bone, plain_morph, section, tracks};
 use generate::section::{Bone, Morph, Tracks};
 use limdroven::{
-    Kind, MOST_BYTES, Refusal, asset_reference_index_for_path, bone_keyframe, camera_summary, light_summary,
-    model_summary, strip, strip_into,
+    BoneIndex, Kind, MOST_BYTES, Refusal, TrackIndex, asset_reference_index_for_path, bone_keyframe, camera_summary,
+    light_summary, model_summary, strip, strip_counts, strip_into, strip_key,
 };
 
 const LINKED: [i32; 4] = [0, 0, 0, 1];
@@ -49,7 +50,7 @@ fn reading() {
         tells(of_strip(&with_number(at, count)), 20, None, &[("offset", at as i128)], &words);
     }
     let absent = bone_keyframe(&[0; 340], 0, true, 0).expect_err("refused");
-    tells(absent, 19, None, &[], "there is no record, name, state or entry of that number");
+    tells(absent, 19, None, &[], "there is no record, name, state, entry, track or key of that number");
 }
 
 #[test]
@@ -72,6 +73,24 @@ fn references() {
     let words = "a byte above 127 stands in the path or in a reference of the list";
     tells(of(&[128], &[]), 22, None, &[], words);
     tells(of(&[], &[0, 1, 0, 128]), 22, None, &[], words);
+}
+
+/// Of a strip that is read.
+#[test]
+fn strips() {
+    let of = |strip: &[u8]| strip_counts(strip).expect_err("refused");
+    tells(of(&vec![0; MOST_BYTES + 1]), 16, None, &[], "more than 16777215 bytes");
+    let absent = strip_key(&[0; 4], TrackIndex::Bone(BoneIndex(0)), 0).expect_err("refused");
+    tells(absent, 19, None, &[], "there is no record, name, state, entry, track or key of that number");
+    let words = "the strip ends early, or bytes are left over behind its last track";
+    tells(of(&[0; 3]), 23, None, &[], words);
+    tells(of(&[0; 5]), 23, None, &[], words);
+    let words = "a bone's map byte is above 15, or a morph's above 1";
+    tells(of(&[1, 0, 0, 0, 1, 0, 0, 0, 0, 0, 16]), 24, None, &[], words);
+    let words = "the strip has what the strip call never writes: a plain field, a curve byte above 127, a float that is not \
+                 finite, an orientation that is too short, a frame above 2147483647 or repeated in its track, a track \
+                 without keys, or more than 65534 keys of one kind besides each track's first";
+    tells(of(&[1, 0, 0, 0, 0, 0]), 25, None, &[], words);
 }
 
 #[test]

@@ -1,0 +1,95 @@
+-- Document 02, T-02 (FORMAT, Strips read back): strips, and what reading each gives.
+use Rattle.std.specs.Prelude.{ℕ, List, [], ◌∷◌, ◌++◌, ◌≡◌}
+use Rattle.layout.specs.Walk.{Answer, answered, declined, refusal}
+use Rattle.section.specs.Limits.{edition1}
+use Rattle.strip.specs.Strip.{count_width, FieldsKey, Contents}
+use Rattle.strip_reader.specs.Read.{read_strip}
+use Rattle.cases.specs.Sections.{zeros, small, one, plain_curve}
+use Rattle.cases.specs.Refusals.{infinity}
+use Rattle.cases.specs.Chains.{two_tracks}
+use Rattle.cases.specs.Keys.{plain_orientation, minus_zero, two_to_minus_12, two_to_minus_11, clamped_curve, bone_strip, morph_strip}
+
+pub record StripCase : Type 0 where
+  pub strip : List ℕ
+  pub gives : Answer Contents
+
+abbrev pub HoldStrips : List StripCase → Type 0
+HoldStrips [] = Unit {0}
+HoldStrips (c ∷ cs) = (read_strip edition1 count_width c.strip ≡ c.gives) × HoldStrips cs
+
+abbrev pub holds : List ℕ → List (List FieldsKey) → List (List FieldsKey) → StripCase
+holds strip bones morphs = record { strip = strip; gives = answered (record { bones = bones; morphs = morphs }) }
+
+abbrev pub refused : List ℕ → ℕ → StripCase
+refused strip number = record { strip = strip; gives = declined (refusal number []) }
+
+-- Both counts, each below 256, and the tracks; the one morph's track, its count below 256, and its keys.
+abbrev pub tracks : ℕ → ℕ → List ℕ → List ℕ
+tracks bones morphs others = bones ∷ 0 ∷ morphs ∷ 0 ∷ others
+
+abbrev pub one_morph : ℕ → List ℕ → List ℕ
+one_morph count keys = tracks 0 1 (count ∷ 0 ∷ keys)
+
+-- A track of one key of frame 0.
+abbrev pub of_key : List (List ℕ) → List FieldsKey
+of_key fields = record { frame = 0; body = fields } ∷ []
+
+abbrev pub plain_curves : List ℕ
+plain_curves = plain_curve ++ plain_curve ++ plain_curve
+
+abbrev pub plain_key : List FieldsKey
+plain_key = of_key (zeros 12 ∷ plain_orientation ∷ plain_curves ∷ plain_curve ∷ [])
+
+-- 2^31 as a frame; curves whose first byte is 127 or 128; a curve like no other here.
+abbrev pub two_to_31 : List ℕ
+two_to_31 = 0 ∷ 0 ∷ 0 ∷ 128 ∷ []
+
+abbrev pub curves_of_127 : List ℕ
+curves_of_127 = clamped_curve ++ plain_curve ++ plain_curve
+
+abbrev pub curves_of_128 : List ℕ
+curves_of_128 = 128 ∷ 20 ∷ 107 ∷ 127 ∷ plain_curve ++ plain_curve
+
+abbrev pub rotation : List ℕ
+rotation = 1 ∷ 2 ∷ 3 ∷ 4 ∷ []
+
+-- In one key 23 and 24 come before 25: no keys, and a byte behind; a key count cut; frame 2^31, then no such map, or none; a frame met
+-- again, and no such map, or none, in the later key; 65,535 keys of which the first has no such map.
+abbrev pub orders : List StripCase
+orders =
+    refused (tracks 1 0 (0 ∷ 0 ∷ 119 ∷ [])) 25
+    ∷ refused (tracks 1 0 (0 ∷ [])) 23
+    ∷ refused (one_morph 1 (two_to_31 ++ 2 ∷ [])) 24
+    ∷ refused (one_morph 1 two_to_31) 23
+    ∷ refused (one_morph 2 (small 5 ++ 0 ∷ small 5 ++ 0 ∷ [])) 25
+    ∷ refused (one_morph 2 (small 5 ++ 0 ∷ small 5 ++ 2 ∷ [])) 24
+    ∷ refused (one_morph 2 (small 5 ++ 0 ∷ small 5)) 23
+    ∷ refused (tracks 0 1 (255 ∷ 255 ∷ small 0 ++ 2 ∷ [])) 24
+    ∷ []
+
+-- No tracks; all groups of a bone's key, and none; a curve byte of 127; a frame in two tracks; a morph's weight, and a frame below the one
+-- before. Then what the builder never writes: a plain group, also with -0; a curve byte of 128; a squared length of 2^-23; an infinite
+-- weight; a frame above 2^31 - 1; no keys. Last 24 and 23.
+abbrev pub reads : List StripCase
+reads =
+    holds (zeros 4) [] []
+    ∷ holds
+    (bone_strip (15 ∷ one ++ zeros 8 ++ two_to_minus_11 ++ zeros 12 ++ curves_of_127 ++ rotation))
+    (of_key ((one ++ zeros 8) ∷ (two_to_minus_11 ++ zeros 12) ∷ curves_of_127 ∷ rotation ∷ []) ∷ [])
+    []
+    ∷ holds (bone_strip (0 ∷ [])) (plain_key ∷ []) []
+    ∷ holds (bone_strip (4 ∷ curves_of_127)) (of_key (zeros 12 ∷ plain_orientation ∷ curves_of_127 ∷ plain_curve ∷ []) ∷ []) []
+    ∷ holds two_tracks (plain_key ∷ plain_key ∷ []) []
+    ∷ holds
+    (one_morph 2 (small 5 ++ 1 ∷ one ++ small 0 ++ 0 ∷ []))
+    []
+    ((record { frame = 5; body = one ∷ [] } ∷ of_key (zeros 4 ∷ [])) ∷ [])
+    ∷ refused (bone_strip (1 ∷ minus_zero ++ zeros 8)) 25
+    ∷ refused (bone_strip (4 ∷ curves_of_128)) 25
+    ∷ refused (bone_strip (2 ∷ two_to_minus_12 ++ two_to_minus_12 ++ zeros 8)) 25
+    ∷ refused (morph_strip (1 ∷ infinity)) 25
+    ∷ refused (one_morph 1 (two_to_31 ++ 0 ∷ [])) 25
+    ∷ refused (one_morph 0 []) 25
+    ∷ refused (bone_strip (16 ∷ [])) 24
+    ∷ refused (bone_strip (0 ∷ 0 ∷ [])) 23
+    ∷ []

@@ -1,0 +1,15 @@
+pub mod Front
+pub mod Key
+pub mod Read
+pub mod Answers
+pub mod Reads
+pub mod Bone
+pub mod Morph
+pub mod Skip
+pub mod Pass
+pub mod Repeated
+pub mod Judge
+pub mod Stands
+pub mod Tracks
+pub mod Run
+pub mod Rows

@@ -1,6 +1,6 @@
--- Every case of the tables is as documents 01 and 02 say, by computation. Assumes nothing.
+-- The marked cases of "Sections by hand", by computation. Assumes nothing.
 use mathlib.Core.Path.{refl}
-use lib.Ieee.{span, climb, size, odd, units, round, sum, add, mul, lt, eq, le, of_fields, of_bits}
+use lib.Ieee.{span, size, units, round, sum, add, mul, lt, eq, le, of_fields, of_bits}
 use Rattle.layout.specs.Walk.{item, string, times, count, items, bytes_at}
 use Rattle.layout.specs.Records as Table
 use Rattle.binary.specs.Groups.{u32s}
@@ -10,39 +10,18 @@ use Rattle.section.specs.Summary.{sections_of, summary_of, model_summary}
 use Rattle.clip.specs.First.{first_met, any, number, member, total}
 use Rattle.clip.specs.Scan.{index_refusal, scan, record_of}
 use Rattle.clip.specs.Chain.{follow, chain}
-use Rattle.clip.specs.Keys.{key_test, squared_length, translation_fails, orientation_fails, pose_asked, weight_asked}
+use Rattle.clip.specs.Keys.{key_test, squared_length, translation_fails, orientation_fails, pose_asked}
 use Rattle.clip.specs.Build.{chain_of, keys, reached_before, disconnected, links_followed, loose, records_refusal, track_refusal, build_refusal}
-use Rattle.clip.specs.Section.{bone_body, morph_body, initial_at, additional_at, records_at, bones, morphs, clip_refusal, reached_records, loose_records}
-use Rattle.strip.specs.Plain.{plain_float, plain_floats, plain_bytes, floats}
-use Rattle.strip.specs.Numbers.{little_endian, number_of}
+use Rattle.clip.specs.Section.{bone_body, initial_at, additional_at, records_at, bones, morphs, clip_refusal, reached_records, loose_records}
+use Rattle.strip.specs.Plain.{plain_float, plain_floats, plain_bytes}
+use Rattle.strip.specs.Numbers.{little_endian}
 use Rattle.strip.specs.Keys.{map_byte, present, key_bytes}
 use Rattle.strip.specs.Strip.{keys_bytes, track_bytes, tracks_bytes, strip_bytes, clip_contents, strip_of}
 use Rattle.strip.specs.Work.{each, inserted, by_index, track_mark, first_work, second_work}
 use Rattle.strip.specs.Call.{strip_call}
-use Rattle.strip_reader.specs.Front.{bytes, number as number_read}
-use Rattle.strip_reader.specs.Key.{bone_refused, morph_refused, fields, not_of_builder, key}
-use Rattle.strip_reader.specs.Read.{keys as keys_read, track, tracks, contents, read_strip}
-use Rattle.asset_references.specs.Normalize.{one_pass, last_userfile}
-use Rattle.asset_references.specs.References.{first_reference, references_within}
-use Rattle.cases.specs.Table.{Hold, table}
-use Rattle.cases.specs.Refusals.{refusals}
-use Rattle.cases.specs.Chains.{chains}
-use Rattle.cases.specs.Keys.{key_cases}
-use Rattle.cases.specs.AssetPaths.{HoldPaths, path_cases}
-use Rattle.cases.specs.StripsRead.{HoldStrips, orders, reads}
+use Rattle.cases.specs.Case.{Hold}
+use Rattle.cases.specs.Table.{table}
 
-pub cases : Hold table × Hold refusals × Hold chains × Hold key_cases × HoldPaths path_cases × HoldStrips orders × HoldStrips reads
-unfolding item string times count items opening names counted_block counts u32s view scroll front keyframes keyframe_blocks states ending model_parts model_section sections_of summary_of model_summary first_met any number member total index_refusal scan record_of follow chain pose_of key_test squared_length translation_fails orientation_fails pose_asked weight_asked chain_of keys reached_before disconnected links_followed loose records_refusal track_refusal build_refusal bytes_at bone_body morph_body initial_at additional_at records_at bones morphs clip_refusal reached_records loose_records plain_float plain_floats plain_bytes little_endian map_byte present key_bytes keys_bytes track_bytes tracks_bytes strip_bytes clip_contents strip_of each inserted by_index track_mark first_work second_work strip_call Table.size span climb size odd units round sum add mul lt eq le of_fields of_bits one_pass last_userfile first_reference references_within floats number_of bytes number_read bone_refused morph_refused fields not_of_builder key keys_read track tracks contents read_strip
-cases = (
-  (refl, (refl, (refl, (refl, (refl, (refl, (refl, (refl, (refl, (refl, (refl, (refl, (refl, tt))))))))))))),
-  (refl, (refl, (refl, (refl, (refl, (refl, (refl, tt))))))),
-  (refl, (refl, (refl, (refl, tt)))),
-  (refl, (refl, (refl, (refl, (refl, (refl, (refl, (refl, tt)))))))),
-  (refl, (refl, (refl, (refl, (refl, (refl, (refl, (refl, (refl, (refl, (refl, (refl, tt)))))))))))),
-  (refl, (refl, (refl, (refl, (refl, (refl, (refl, (refl, tt)))))))),
-  (refl, (refl, (refl, (refl, (refl, (refl, (refl, (refl, (refl, (refl, (refl, (refl, (refl, (refl, tt)))))))))))))),
-)
-
--- The marked cases of "Sections by hand".
 pub marked : Hold table
-marked = cases.0
+unfolding item string times count items opening names counted_block counts u32s view scroll front keyframes keyframe_blocks states ending model_parts model_section sections_of summary_of model_summary first_met any number member total index_refusal scan record_of follow chain pose_of key_test squared_length translation_fails orientation_fails pose_asked chain_of keys reached_before disconnected links_followed loose records_refusal track_refusal build_refusal bytes_at bone_body initial_at additional_at records_at bones morphs clip_refusal reached_records loose_records plain_float plain_floats plain_bytes little_endian map_byte present key_bytes keys_bytes track_bytes tracks_bytes strip_bytes clip_contents strip_of each inserted by_index track_mark first_work second_work strip_call Table.size span size units round sum add mul lt eq le of_fields of_bits
+marked = (refl, (refl, (refl, (refl, (refl, (refl, (refl, (refl, (refl, (refl, (refl, (refl, (refl, tt)))))))))))))

@@ -1,2 +1,10 @@
 pub mod Cases
+pub mod Refusals
+pub mod Chains
+pub mod Keys
+pub mod Slices
+pub mod Listings
+pub mod AssetPaths
+pub mod StripsRead
+pub mod StripAnswers
 pub mod TooLong

@@ -1,12 +1,10 @@
 -- Document 01, "Mistakes to rule out" (FORMAT, The build): what the marked cases do not show of them, and the first work slice where the
 -- order of indices is not that of the file.
 use Rattle.std.specs.Prelude.{ℕ, List, [], ◌∷◌, ◌++◌, pos}
-use Rattle.cases.specs.Sections.{zeros, small, one, plain_bone, bone, additional_bone, two_bones}
-use Rattle.cases.specs.Table.{Case, Given, Question, gives_strip, gives_refusal}
-
--- The strip of two bones with one plain key each, of frame 0.
-abbrev pub two_tracks : List ℕ
-two_tracks = 2 ∷ 0 ∷ 0 ∷ 0 ∷ 1 ∷ 0 ∷ 0 ∷ 0 ∷ 0 ∷ 0 ∷ 0 ∷ 1 ∷ 0 ∷ 0 ∷ 0 ∷ 0 ∷ 0 ∷ 0 ∷ []
+use Rattle.answer_cases.specs.Bytes.{zeros, small}
+use Rattle.cases.specs.Sections.{one, plain_bone, bone, additional_bone, two_bones}
+use Rattle.cases.specs.Strips.{two_tracks}
+use Rattle.cases.specs.Case.{Case, Given, Question, gives_strip, gives_refusal}
 
 -- A loose record whose orientation is all 0; two records of which the second comes first in the chain.
 abbrev pub loose_pose : List ℕ

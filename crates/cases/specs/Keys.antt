@@ -1,39 +1,13 @@
 -- Document 01, "The strip", and of a pose "Turned down" and "Modules" (FORMAT, The strip and The build): the bytes of a key whose curves,
 -- translation, orientation or weight stand, and the edges of what is asked of a pose.
 use Rattle.std.specs.Prelude.{ℕ, List, [], ◌∷◌, ◌++◌, pos}
-use Rattle.cases.specs.Sections.{zeros, one, plain_curve, posed_bone, weighted_morph}
-use Rattle.cases.specs.Table.{Case, gives_strip, gives_refusal}
-use Rattle.cases.specs.Refusals.{infinity}
+use Rattle.answer_cases.specs.Bytes.{zeros}
+use Rattle.cases.specs.Sections.{one, infinity, minus_zero, two_to_minus_12, two_to_minus_11, plain_curve, high_curve, clamped_curve, plain_orientation, posed_bone, weighted_morph}
+use Rattle.cases.specs.Strips.{bone_strip, morph_strip}
+use Rattle.cases.specs.Case.{Case, gives_strip, gives_refusal}
 
 abbrev pub four_plain_curves : List ℕ
 four_plain_curves = plain_curve ++ plain_curve ++ plain_curve ++ plain_curve
-
-abbrev pub plain_orientation : List ℕ
-plain_orientation = zeros 12 ++ one
-
--- The f32 -0; 2^-12 and 2^-11, whose squares are 2^-24 and 2^-22.
-abbrev pub minus_zero : List ℕ
-minus_zero = 0 ∷ 0 ∷ 0 ∷ 128 ∷ []
-
-abbrev pub two_to_minus_12 : List ℕ
-two_to_minus_12 = 0 ∷ 0 ∷ 128 ∷ 57 ∷ []
-
-abbrev pub two_to_minus_11 : List ℕ
-two_to_minus_11 = 0 ∷ 0 ∷ 0 ∷ 58 ∷ []
-
--- A curve whose first byte is above 127, and how it stands in a clip.
-abbrev pub high_curve : List ℕ
-high_curve = 200 ∷ 20 ∷ 107 ∷ 127 ∷ []
-
-abbrev pub clamped_curve : List ℕ
-clamped_curve = 127 ∷ 20 ∷ 107 ∷ 127 ∷ []
-
--- The strip of one bone and no morph, or of one morph and no bone, whose one key is of frame 0, by the key's map byte and fields.
-abbrev pub bone_strip : List ℕ → List ℕ
-bone_strip key = 1 ∷ 0 ∷ 0 ∷ 0 ∷ 1 ∷ 0 ∷ 0 ∷ 0 ∷ 0 ∷ 0 ∷ key
-
-abbrev pub morph_strip : List ℕ → List ℕ
-morph_strip key = 0 ∷ 0 ∷ 1 ∷ 0 ∷ 1 ∷ 0 ∷ 0 ∷ 0 ∷ 0 ∷ 0 ∷ key
 
 -- A key whose fields are plain, -0 as plain as 0; one for each bit of the map; a pose refused, "The limit is 2^-23, equality refused", and
 -- 12 before 13.

@@ -1,7 +1,12 @@
+pub mod Sections
+pub mod Strips
+pub mod Case
+pub mod Table
+pub mod Refusals
 pub mod Chains
 pub mod Keys
-pub mod Refusals
-pub mod Sections
-pub mod Table
+pub mod Slices
+pub mod Listings
 pub mod AssetPaths
 pub mod StripsRead
+pub mod StripAnswers

@@ -1,15 +1,9 @@
 -- Document 01, "Turned down, and by whose doing" (FORMAT, Refusals): a section for each refusal of a build that no marked case of "Sections
 -- by hand" meets, so that each is met by one but 9, which none meets.
-use Rattle.std.specs.Prelude.{ℕ, List, [], ◌∷◌, ◌++◌, pos, negsuc, replicate}
-use Rattle.cases.specs.Sections.{zeros, small, one, bone, additional_bone, linked, posed_bone, weighted_morph}
-use Rattle.cases.specs.Table.{Case, gives_refusal}
-
--- -1 as an i32; the f32 infinity.
-abbrev pub minus_one : List ℕ
-minus_one = replicate 4 255
-
-abbrev pub infinity : List ℕ
-infinity = 0 ∷ 0 ∷ 128 ∷ 127 ∷ []
+use Rattle.std.specs.Prelude.{ℕ, List, [], ◌∷◌, ◌++◌, pos, negsuc}
+use Rattle.answer_cases.specs.Bytes.{zeros, small, minus_one}
+use Rattle.cases.specs.Sections.{one, infinity, bone, additional_bone, linked, posed_bone, weighted_morph}
+use Rattle.cases.specs.Case.{Case, gives_refusal}
 
 -- The bone linked to 1, and a record 1 of this frame behind it.
 abbrev pub of_frame : List ℕ → List ℕ

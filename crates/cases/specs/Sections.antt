@@ -1,23 +1,39 @@
 -- Document 01, "Sections by hand": the sections, byte by byte.
-use Rattle.std.specs.Prelude.{ℕ, List, [], ◌∷◌, ◌++◌, replicate}
-
-abbrev pub zeros : ℕ → List ℕ
-zeros n = replicate n 0
+use Rattle.std.specs.Prelude.{ℕ, List, [], ◌∷◌, ◌++◌}
+use Rattle.answer_cases.specs.Bytes.{zeros, small, minus_one}
 
 -- The bone count stands at 260.
 abbrev pub negative_bone_count : List ℕ
-negative_bone_count = zeros 260 ++ replicate 4 255 ++ zeros 76
+negative_bone_count = zeros 260 ++ minus_one ++ zeros 76
 
--- A number below 256 as an i32; the f32 1.
-abbrev pub small : ℕ → List ℕ
-small n = n ∷ zeros 3
-
+-- The f32 1, infinity and -0; 2^-12 and 2^-11, whose squares are 2^-24 and 2^-22.
 abbrev pub one : List ℕ
 one = 0 ∷ 0 ∷ 128 ∷ 63 ∷ []
 
--- A curve that is plain.
+abbrev pub infinity : List ℕ
+infinity = 0 ∷ 0 ∷ 128 ∷ 127 ∷ []
+
+abbrev pub minus_zero : List ℕ
+minus_zero = 0 ∷ 0 ∷ 0 ∷ 128 ∷ []
+
+abbrev pub two_to_minus_12 : List ℕ
+two_to_minus_12 = 0 ∷ 0 ∷ 128 ∷ 57 ∷ []
+
+abbrev pub two_to_minus_11 : List ℕ
+two_to_minus_11 = 0 ∷ 0 ∷ 0 ∷ 58 ∷ []
+
+-- A curve that is plain; one whose first byte is above 127, and how it stands in a clip.
 abbrev pub plain_curve : List ℕ
 plain_curve = 20 ∷ 20 ∷ 107 ∷ 107 ∷ []
+
+abbrev pub high_curve : List ℕ
+high_curve = 200 ∷ 20 ∷ 107 ∷ 127 ∷ []
+
+abbrev pub clamped_curve : List ℕ
+clamped_curve = 127 ∷ 20 ∷ 107 ∷ 127 ∷ []
+
+abbrev pub plain_orientation : List ℕ
+plain_orientation = zeros 12 ++ one
 
 -- What a bone record has after its base: all 0 but its curves and its orientation's last part.
 abbrev pub plain_bone : List ℕ → List ℕ

@@ -5,6 +5,3 @@ pub mod Pieces
 pub mod Same
 pub mod Ended
 pub mod Called
-pub mod TwoRuns
-pub mod Fixed
-pub mod ReachedAndLoose

@@ -7,6 +7,3 @@ pub mod Clip
 pub mod Need
 pub mod Outcomes
 pub mod Run
-pub mod Demand3
-pub mod Fixed
-pub mod ReachedAndLoose

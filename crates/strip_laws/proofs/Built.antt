@@ -9,7 +9,7 @@ use Rattle.strip.proofs.{Call.{tells, strip-out}, Written.{Wide}}
 use Rattle.blocks.specs.declared.track.{TrackIndex.{TrackIndex}, BoneIndex.{BoneIndex}, MorphIndex.{MorphIndex}}
 use Rattle.strip_reader.specs.Answers.{strip_key, counts, key_count, key}
 use Rattle.strip_call.specs.Run.{Run, ReadWithin, Accepted, strip_out}
-use Rattle.strip_call.proofs.TwoRuns.{down}
+use Rattle.strip_call_laws.proofs.TwoRuns.{down}
 use Rattle.strip_laws.specs.{Same.{SameBoneKey, SameMorphKey}, Built.{TrackRead, ReadBack, BuiltRead}}
 use Rattle.strip_laws.proofs.{Back.{told}, Judged.{never-refused}, HeldBack.{HeldBack, held-back}}
 

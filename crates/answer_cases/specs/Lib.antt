@@ -1,0 +1,12 @@
+pub mod Bytes
+pub mod Sections
+pub mod Equal
+pub mod Table
+pub mod Summary
+pub mod Records
+pub mod Lists
+pub mod Texts
+pub mod CameraLight
+pub mod Floats
+pub mod Refusals
+pub mod Slices

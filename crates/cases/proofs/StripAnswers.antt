@@ -1,0 +1,19 @@
+-- Every case of specs/StripAnswers, by computation. Assumes nothing.
+use mathlib.Core.Path.{refl}
+use lib.Ieee.{span, sum, add, mul, eq, le, of_fields, of_bits}
+use Rattle.records.specs.Pose.{pose_of}
+use Rattle.clip.specs.First.{member}
+use Rattle.clip.specs.Keys.{squared_length, translation_fails, orientation_fails, pose_asked, weight_asked}
+use Rattle.strip.specs.Plain.{plain_float, plain_floats, plain_bytes, floats}
+use Rattle.strip.specs.Numbers.{little_endian, number_of}
+use Rattle.strip.specs.Keys.{map_byte}
+use Rattle.strip_reader.specs.Front.{bytes, number as number_read}
+use Rattle.strip_reader.specs.Key.{bone_refused, morph_refused, fields, not_of_builder, key}
+use Rattle.strip_reader.specs.Read.{keys as keys_read, track, tracks, contents, read_strip}
+use Rattle.strip_reader.specs.Answers.{counts as counts_of, key_count, key as key_of, track_rows, kind_rows, rows, keys as keys_of}
+use Rattle.answer_cases.specs.Equal.{Equal}
+use Rattle.cases.specs.StripAnswers.{refusals, counts_told, key_counts_told, keys_told, rows_left}
+
+pub answers_hold : Equal refusals × Equal counts_told × Equal key_counts_told × Equal keys_told × Equal rows_left
+unfolding member pose_of squared_length translation_fails orientation_fails pose_asked weight_asked plain_float plain_floats plain_bytes little_endian map_byte span sum add mul eq le of_fields of_bits floats number_of bytes number_read bone_refused morph_refused fields not_of_builder key keys_read track tracks contents read_strip counts_of key_count key_of track_rows kind_rows rows keys_of
+answers_hold = ((refl, (refl, (refl, (refl, (refl, tt))))), (refl, (refl, (refl, (refl, tt)))), (refl, (refl, (refl, (refl, (refl, (refl, tt)))))), (refl, (refl, (refl, (refl, (refl, (refl, (refl, tt))))))), (refl, (refl, (refl, (refl, (refl, (refl, tt)))))))

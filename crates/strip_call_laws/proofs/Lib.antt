@@ -1,0 +1,3 @@
+pub mod TwoRuns
+pub mod Fixed
+pub mod ReachedAndLoose

@@ -1,4 +1,4 @@
--- Refusal 16 is the first test of a reading and its last: behind it the section's parts are read. Assumes nothing.
+-- 16 is tested first, and where it is not met the section's parts are read. Assumes nothing.
 use Prim.Native.Nat.{ℕ}
 use mathlib.Core.List.{List}
 use borrow.Author.Tests.{lt-ltb, le-ltb}

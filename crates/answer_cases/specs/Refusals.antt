@@ -1,4 +1,5 @@
--- Document 01, "Turned down, and by whose doing" (FORMAT, Refusals): what is refused by a reading, with which value, and where a limit lies.
+-- Document 01, "Turned down, and by whose doing" (FORMAT, Refusals): what is refused by a reading, with which value, and where a limit
+-- lies.
 use Rattle.std.specs.Prelude.{ℕ, ◌-◌, ◌<◌, ◌≤◌, List, [], ◌∷◌, ◌++◌, ◌≡◌, length, take, Result, Ok, Err}
 use Rattle.layout.specs.Walk.{refused, refusal}
 use Rattle.binary.specs.{Answers.{answer_read}, declared.refusal.Refusal.{Refusal}}

@@ -1,5 +1,5 @@
--- Document 01, "Model section" and "Records" (FORMAT, A model section and Records): one section of each kind, byte by byte, whose fields are
--- told apart by their numbers.
+-- Document 01, "Model section" and "Records" (FORMAT, A model section and Records): one section of each kind, byte by byte, whose fields
+-- are told apart by their numbers.
 use Rattle.std.specs.Prelude.{ℕ, ◌+◌, List, [], ◌∷◌, ◌++◌, codes}
 use Rattle.answer_cases.specs.Bytes.{zeros, small, smalls, minus_one, from, text}
 

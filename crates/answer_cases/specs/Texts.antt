@@ -1,5 +1,5 @@
--- Document 01, modules 2 and 7 (FORMAT, Calls by number): texts, payloads and curves, "handed back as the part of the section that holds it;
--- a refused call of this kind hands back an empty part".
+-- Document 01, modules 2 and 7 (FORMAT, Calls by number): texts, payloads and curves, "handed back as the part of the section that holds
+-- it; a refused call of this kind hands back an empty part".
 use Rattle.std.specs.{Prelude.{true, List, [], ◌∷◌, ◌++◌, take}, List.{concat}}
 use Rattle.section.specs.Limits.{edition1}
 use Rattle.entries.specs.Keyframes.{bone_keyframe, morph_keyframe}

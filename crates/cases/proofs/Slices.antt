@@ -18,8 +18,9 @@ use Rattle.strip.specs.Keys.{map_byte, present, key_bytes}
 use Rattle.strip.specs.Strip.{keys_bytes, track_bytes, tracks_bytes, strip_bytes, clip_contents, strip_of}
 use Rattle.strip.specs.Work.{each, by_index, first_work, second_work, inserted, track_mark}
 use Rattle.strip.specs.Call.{strip_call}
-use Rattle.cases.specs.Slices.{HoldSlices, slices}
+use Rattle.answer_cases.specs.Equal.{Equal}
+use Rattle.cases.specs.Slices.{slices}
 
-pub slices_hold : HoldSlices slices
+pub slices_hold : Equal slices
 unfolding item string times count items opening names counted_block counts u32s view scroll front keyframes keyframe_blocks states ending model_parts model_section first_met number member total scan follow chain pose_of key_test squared_length translation_fails orientation_fails pose_asked weight_asked chain_of keys disconnected links_followed loose records_refusal track_refusal build_refusal bytes_at bone_body morph_body initial_at records_at bones morphs clip_refusal reached_records loose_records plain_float plain_floats plain_bytes little_endian map_byte present key_bytes keys_bytes track_bytes tracks_bytes strip_bytes clip_contents strip_of each by_index first_work second_work strip_call Table.size span size units round sum add mul lt eq le of_fields of_bits any index_refusal record_of reached_before additional_at inserted track_mark
 slices_hold = (refl, (refl, (refl, (refl, (refl, (refl, (refl, tt)))))))

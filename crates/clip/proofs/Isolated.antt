@@ -1,4 +1,5 @@
--- Where the indices passed the scan, a record with both links 0 is isolated: they are in range, and no two of them are equal. Assumes nothing.
+-- Where the indices passed the scan, a record with both links 0 is isolated: they are in range, and no two of them are equal. Assumes
+-- nothing.
 use Prim.Native.Nat.{ℕ, ◌<◌}
 use native.Mathlib.Omega.{arith}
 use mathlib.Core.Path.{◌≡◌}

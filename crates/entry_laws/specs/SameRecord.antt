@@ -1,7 +1,7 @@
 -- Document 01, "Build fields" (FORMAT, What a build takes): "Bone: frame, next link, 16 interpolation bytes, pose bits. Morph: frame, next
 -- link, weight bits. An additional record also has index and previous link." The record of a number that a call answers is the record of
--- that position that a build takes: its summary shows these fields, pose and weight as floats and as bits, and the bytes of its body are the
--- first of the payload that is handed back (module 7: "as the part of the section that holds it").
+-- that position that a build takes: its summary shows these fields, pose and weight as floats and as bits, and the bytes of its body are
+-- the first of the payload that is handed back (module 7: "as the part of the section that holds it").
 use Rattle.std.specs.{Prelude.{ℕ, ◌<◌, true, false, List, ◌++◌, ◌≡◌, take, Some, None}, List.{concat}}
 use Rattle.layout.specs.{Numbers.{signed}, Walk.{Answer, answered, u32_at}}
 use Rattle.records.specs.declared.base.PmmDocumentBaseKeyframeSummary.{PmmDocumentBaseKeyframeSummary}

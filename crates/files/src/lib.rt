@@ -1,5 +1,5 @@
-// Reading for the programs: into a slice, as far as a file or standard input goes. No Vec: nothing here takes memory from a heap. hex prints
-// what is read.
+// Reading for the programs: into a slice, as far as a file or standard input goes. No Vec: nothing here takes memory from a heap. hex
+// prints what is read.
 #![tactic(auto)]
 
 pub mod hex;

@@ -10,8 +10,8 @@ use records::curves;
 const TOP: u8 = 127;
 
 impl<'a> BoneBody<'a> {
-    // A line for each curve, the last one the rotation's. With a function of one curve, called for each of the four, the bytes are no longer
-    // clamped all at once: 39 instructions more a key, where one in two has curves.
+    // A line for each curve, the last one the rotation's. With a function of one curve, called for each of the four, the bytes are no
+    // longer clamped all at once: 39 instructions more a key, where one in two has curves.
     pub fn curves(&self) -> [[u8; 4]; 4]
         ensures { result ≡ map clamped (curves_at self.now.section.now self.now.at) }
     {

@@ -49,8 +49,9 @@ invalid_weight = 14  -- "weight not finite (track, frame)", as of 12 and 13
 abbrev pub disconnected_records : ℕ
 disconnected_records = 15  -- "unreached records with a nonzero link (how many)"
 
+-- "more than 16,777,215 bytes, tested first"; 02: "16 holds for this path, this list and any strip lent to be read, each by itself"
 abbrev pub too_long : ℕ
-too_long = 16  -- "more than 16,777,215 bytes, tested first"
+too_long = 16
 
 abbrev pub work_too_short : ℕ
 work_too_short = 17  -- "a u16 slice below A + B (the need); tested after reading"
@@ -58,8 +59,9 @@ work_too_short = 17  -- "a u16 slice below A + B (the need); tested after readin
 abbrev pub output_too_short : ℕ
 output_too_short = 18  -- "output shorter than the strip (the strip's length); tested last"
 
+-- "no record or name of that number; tested after reading"; 02: "19, for a track or key not there, is last"
 abbrev pub absent : ℕ
-absent = 19  -- "no record or name of that number; tested after reading"
+absent = 19
 
 abbrev pub count_above_limit : ℕ
 count_above_limit = 20  -- "bone or morph count above 65,535, or their additional count above 65,534 (offset of the count); tested after 2"

@@ -11,8 +11,8 @@ use crate::rows;
 use crate::rows::ROW;
 use strip_reader::all_keys;
 
-// As many keys as are asked for at once: their rows take 32 KB. Each asking judges the whole strip, which is short where a section of 65,536
-// bytes is listed: it has at most 3,104 keys.
+// As many keys as are asked for at once: their rows take 32 KB. Each asking judges the whole strip, which is short where a section of
+// 65,536 bytes is listed: it has at most 3,104 keys.
 const KEYS: usize = 512;
 
 // Of a strip that is read and has so many keys. Each reading of it answers as the first did, so that nothing is asked of the answer.

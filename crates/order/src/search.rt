@@ -7,7 +7,8 @@ ghost use Rattle.order.specs.Repeat.{number_at};
 use crate::slots::Slots;
 
 impl Slots<'_, '_> {
-    // In files that MMD writes the numbers are consecutive: a number stands as far behind the first slot as it is above the first slot's number.
+    // In files that MMD writes the numbers are consecutive: a number stands as far behind the first slot as it is above the first slot's
+    // number.
     fn find_consecutive(&self, number: u32) -> Option<usize>
         ensures { Stands self.now.numbers.section.now self.now.numbers.field self.now.positions.now number result }
     {
@@ -42,8 +43,8 @@ impl Rising<'_, '_> {
         })
     }
 
-    // Runs only where indices have gaps, a link leads to no record, or frames of a track do not rise. Kept out of line: inlined in `find`, it makes the strips of files in
-    // MMD's own order, which never come here, take 7 to 24 per cent more instructions.
+    // Runs only where indices have gaps, a link leads to no record, or frames of a track do not rise. Kept out of line: inlined in `find`,
+    // it makes the strips of files in MMD's own order, which never come here, take 7 to 24 per cent more instructions.
     #[inline(never)]
     fn find_by_halves(&self, number: u32) -> Option<usize>
         ensures { Finds self.now.slots.numbers.section.now self.now.slots.numbers.field self.now.slots.positions.now number result }

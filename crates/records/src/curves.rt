@@ -4,7 +4,8 @@ ghost use Rattle.records.specs.Curves.{curves_at, no_curves};
 
 use binary::numbers;
 
-// The four curves of 16 bytes, as they stand. The bytes are read at once: what is done to each of them is then done to all in one instruction.
+// The four curves of 16 bytes, as they stand. The bytes are read at once: what is done to each of them is then done to all in one
+// instruction.
 #[tactic(auto, unfolding(layout::specs::Walk::bytes_at))]
 pub fn curves_at(s: &[u8], at: usize) -> [[u8; 4]; 4]
     requires { at + 16 ≤ length s.now }

@@ -8,7 +8,8 @@ use Rattle.section.specs.Model.{model_section}
 use Rattle.clip.specs.Section.{bones, morphs, clip_refusal, reached_records, loose_records}
 use Rattle.strip.specs.{Strip.{strip_of}, Work.{first_work, second_work}}
 
--- "An accepted build reports reached (links followed) and loose (unreached additional records, both links 0)"; "it adds the strip's length".
+-- "An accepted build reports reached (links followed) and loose (unreached additional records, both links 0)"; "it adds the strip's
+-- length".
 pub record Built : Type 0 where
   pub strip_length : ℕ
   pub reached : ℕ

@@ -1,5 +1,5 @@
-// Runs only where tracks are not as MMD writes them (marks, rising). 11: the first key of a track whose frame an earlier key has. Key 0 is the
-// initial record's, key i + 1 that of the record listed at i.
+// Runs only where tracks are not as MMD writes them (marks, rising). 11: the first key of a track whose frame an earlier key has. Key 0 is
+// the initial record's, key i + 1 that of the record listed at i.
 ghost use Rattle.std.specs.Prelude.{◌≡◌, ◌+◌, length};
 ghost use Rattle.order.specs.Repeat.{FirstRepeat};
 ghost use Rattle.chains.specs.Positions.{records_of};

@@ -1,5 +1,5 @@
-// Runs, but for `initial_key`, only where tracks are not as MMD writes them (marks, rising). A track before its records' keys are asked: its
-// chain listed, its first repeated frame found, and its initial record's key asked.
+// Runs, but for `initial_key`, only where tracks are not as MMD writes them (marks, rising). A track before its records' keys are asked:
+// its chain listed, its first repeated frame found, and its initial record's key asked.
 ghost use Rattle.std.specs.Prelude.{false, ◌≡◌, ◌≤◌, length};
 ghost use Rattle.blocks.specs.Track.{number_of_track};
 ghost use Rattle.blocks.specs.Block.{TrackOf, links};

@@ -1,6 +1,6 @@
-// Runs only where tracks are not as MMD writes them (marks, rising). Document 01, "Build order": "Then each track: its whole chain (6, 7, 8),
-// then for each key, initial first, 9 to 13." 9 is never met (clip, proofs/Shared.antt), so nothing asks for it here. The length of a list
-// that is written is a clause, here and in ready: it is no `Slots`, which would have to keep its fact at each write.
+// Runs only where tracks are not as MMD writes them (marks, rising). Document 01, "Build order": "Then each track: its whole chain (6, 7,
+// 8), then for each key, initial first, 9 to 13." 9 is never met (clip, proofs/Shared.antt), so nothing asks for it here. The length of a
+// list that is written is a clause, here and in ready: it is no `Slots`, which would have to keep its fact at each write.
 ghost use Rattle.std.specs.Prelude.{◌≡◌, ◌<◌, ◌≤◌, length};
 ghost use Rattle.blocks.specs.Track.{number_of_track};
 ghost use Rattle.blocks.specs.Block.{TrackOf, links};

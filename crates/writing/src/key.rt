@@ -14,8 +14,8 @@ use track_keys::key;
 use track_keys::key::MorphKey;
 
 // A morph's key as document 01 has it answered ("Forms by place in the code"): its frame and weight, and no refusal, since the clip was
-// accepted. They are measured and written, and not the record's bytes. The section is told apart from the key: of a slice that is an argument
-// the check knows that its bytes are below 256, which gives the weight's bits back.
+// accepted. They are measured and written, and not the record's bytes. The section is told apart from the key: of a slice that is an
+// argument the check knows that its bytes are below 256, which gives the weight's bits back.
 #[inline(always)]
 fn morph_value(section: &[u8], at: usize, frame: u32, morph: MorphIndex) -> (u32, f32)
     requires whole { at + 4 ≤ length section.now }

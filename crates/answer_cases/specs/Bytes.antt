@@ -1,4 +1,4 @@
--- Document 01, "Numbers" (FORMAT, Numbers): bytes that sections by hand are made of.
+-- Bytes that sections by hand are made of (FORMAT, Numbers).
 use Rattle.std.specs.Prelude.{ℕ, zero, suc, ◌+◌, List, [], ◌∷◌, ◌++◌, length, replicate}
 
 abbrev pub zeros : ℕ → List ℕ

@@ -8,8 +8,8 @@ use Rattle.answer_cases.specs.Bytes.{zeros, from}
 use Rattle.answer_cases.specs.Sections.{camera_section, light_section}
 use Rattle.answer_cases.specs.Table.{Case, case, told, no_index}
 
--- Where the section begins and ends; how many records; where their count, the additional ones, their end, the state and its end stand. The
--- first section starts at 2; of the last, the state, at 82, is not whole.
+-- Where the section begins and ends; how many records, initial and additional; where the count, the additional ones, their end, the state
+-- and its end stand. The first section starts at 2; of the last, the state, at 82, is not whole.
 abbrev pub tracks : List Case
 tracks =
     case
@@ -21,8 +21,9 @@ tracks =
     ∷ case (told number.track_summary (track_summary edition1 Kind.Light (take 105 light_section) 0)) (1 ∷ 82 ∷ [])
     ∷ []
 
--- Index, frame and links, distance, look-at and angle; parent model and bone, perspective, field of view and selected; where each of these
--- and the curves stand; where the record and its payload stand. The perspective byte is 0, then 1.
+-- Index, frame and links, distance, look-at and angle; parent model and bone, perspective, field of view and selected; where each stands,
+-- from the distance on, the curves among them, with the length of look-at, angle and curves; where the record and its payload stand. The
+-- perspective byte is 0, then 1. Last the curves' bytes, and none.
 abbrev pub cameras : List Case
 cameras =
     case
@@ -38,7 +39,8 @@ cameras =
     ∷ case (curves_part (camera_keyframe edition1 true 1 camera_section 0) camera_section) []
     ∷ []
 
--- Index, frame and links, colour and direction; selected; where each of these stands; where the record and its payload stand.
+-- Index, frame and links, colour and direction; selected; where colour, direction and selected stand, with the length of the first two;
+-- where the record and its payload stand.
 abbrev pub lights : List Case
 lights =
     case

@@ -16,7 +16,7 @@ abbrev pub pose : Pose → List ℕ
 pose p =
     bits (p.translation_x ∷ p.translation_y ∷ p.translation_z ∷ p.orientation_x ∷ p.orientation_y ∷ p.orientation_z ∷ p.orientation_w ∷ [])
 
--- A NaN, that of the additional morph record, has the bits of the one NaN that there is among floats.
+-- The weight of the additional morph record, 0xffc00001 in the section, is as a float the one NaN that there is, whose bits are 0x7fc00000.
 abbrev pub floats : List Case
 floats =
     case (told (λ b. pose b.pose) (bone_keyframe edition1 true 0 model_section 0)) (0 ∷ from 53 7)

@@ -9,6 +9,7 @@ use Rattle.answer_cases.specs.Bytes.{zeros, minus_one}
 use Rattle.answer_cases.specs.Sections.{camera_section}
 use Rattle.answer_cases.specs.Table.{Case, case, told}
 
+-- An answer's numbers are not looked at here.
 abbrev pub nothing : {A : Type 0} → A → List ℕ
 nothing answer = []
 
@@ -31,8 +32,8 @@ abbrev pub n65536 : List ℕ
 n65536 = 0 ∷ 0 ∷ 1 ∷ 0 ∷ []
 
 -- Negative counts; 100 constraints, whose 400 bytes are not there; counts above their limit, and at it, where the bytes end before the last
--- name or within a record; any count of model records. Then a name's body that is not whole, a start past the end, and a record of a camera
--- section that is not whole, or is.
+-- name or within a record; 65,536 model records, which have no limit. Then a name's body that is not whole, a start past the end, and a
+-- camera section that ends a byte before its additional record does, or just behind it.
 abbrev pub places : List Case
 places =
     case (read_counted 260 minus_one) (2 ∷ 260 ∷ [])

@@ -3,7 +3,7 @@
 use Rattle.std.specs.Prelude.{ℕ, ◌+◌, List, [], ◌∷◌, ◌++◌, codes}
 use Rattle.answer_cases.specs.Bytes.{zeros, small, smalls, minus_one, from, text}
 
--- "model number u8; name and English name; path, 256 bytes; one ignored byte": to 263.
+-- "model number u8; name and English name ..; path, 256 bytes ..; one ignored byte": to 263.
 abbrev pub opening : List ℕ
 opening = 7 ∷ text (codes "ab") ++ text (codes "c") ++ codes "d/e" ++ zeros 253 ++ 9 ∷ []
 

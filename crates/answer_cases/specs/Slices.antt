@@ -1,4 +1,4 @@
--- Document 01, module 7 (FORMAT, Calls for C): what a call writes into a lent slice, "from place 0 on as far as it reaches", and what it
+-- The calls for C (exports, include/limdroven.h): what a call writes into a lent slice, "from place 0 on as far as it reaches", and what it
 -- returns.
 use Rattle.std.specs.Prelude.{ℕ, List, [], ◌∷◌, pos, Some, None}
 use Rattle.layout.specs.Walk.{refusal, answered, declined}

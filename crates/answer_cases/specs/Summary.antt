@@ -1,12 +1,13 @@
--- Document 01, modules 2 and 7 (FORMAT, Calls by number): the summary of a model section, as include/limdroven.h lists their numbers.
+-- Document 01, modules 2 and 7 (FORMAT, Calls by number): the summary of a model section, as include/limdroven.h lists its numbers.
 use Rattle.std.specs.Prelude.{List, [], ◌∷◌}
 use Rattle.section.specs.{Limits.{edition1}, Summary.{model_summary}}
 use Rattle.answer_numbers.specs.Summary as number
 use Rattle.answer_cases.specs.Sections.{model_section}
 use Rattle.answer_cases.specs.Table.{Case, case, told, bits_of_minus_one}
 
--- Where the section begins, ends and has its path, and its counts; draw order, transform order, selected bone and morphs; scroll, and how
--- many records; last frame and the rest. Then where the blocks of bones, morphs and models stand, and the states.
+-- The model's number, where the section begins and ends, where its path stands, and its counts; draw order, transform order, selected bone
+-- and morphs; scroll, and how many records of each kind, initial and additional; last frame, visible, blend, edge width and self shadow.
+-- Then where the blocks of bones, morphs and models stand, and the states.
 abbrev pub summaries : List Case
 summaries =
     case

@@ -14,7 +14,7 @@ case given is = (given, is)
 abbrev pub told : {A : Type 0} → (A → List ℕ) → Answer A → List ℕ
 told numbers a = status a ∷ written numbers a
 
--- "an absent index as 2^64 - 1"; -1 as its 32 bits.
+-- An absent index as 2^64 - 1; -1 as its 32 bits.
 abbrev pub no_index : ℕ
 no_index = 18446744073709551615
 

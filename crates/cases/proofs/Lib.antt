@@ -3,6 +3,7 @@ pub mod Refusals
 pub mod Chains
 pub mod Keys
 pub mod Slices
+pub mod StripRefusals
 pub mod Listings
 pub mod AssetPaths
 pub mod StripsRead

@@ -32,7 +32,7 @@ refused path list number = record { path = path; list = list; gives = declined (
 
 -- One pass over the slashes; backslashes; the last `userfile/` that opens the text or follows a slash, in any letter case, and none that
 -- does; kinds passed over and counted, the first of two; an entry as it stands; a text without its length, and one of 256 bytes; an empty
--- path; 21 before 22, each over all that it speaks of; kinds and lengths above 127.
+-- path; 21 over the whole list, then 22 over path and entries; kinds and lengths above 127.
 abbrev pub path_cases : List PathCase
 path_cases =
     number (codes "a\\\\\\b") (entry 1 (codes "a/b") ++ entry 1 (codes "a///b") ++ entry 1 (codes "A//B")) 2

@@ -1,4 +1,4 @@
--- Document 01, "Sections by hand": what a case is: a section, and what reading it from 0 gives, or what the strip call gives.
+-- Document 01, "Sections by hand": a case is a section, and what reading it from 0 gives, or what the strip call gives.
 use Rattle.std.specs.Prelude.{ℕ, List, [], ◌∷◌, ℤ, ◌≡◌, take, replicate}
 use Rattle.layout.specs.Walk.{Answer, answered, declined}
 use Rattle.section.specs.{Limits.{edition1}, Summary.{model_summary}}

@@ -8,7 +8,7 @@ use Rattle.cases.specs.Slices.{linked_morph}
 abbrev pub listed : List ℕ → List ℕ
 listed section = section_listing (record { section = section; start = 0; first = zeros 2; second = zeros 2; output = zeros 40 })
 
--- A record of frame 25 behind the bone; a loose one; two tracks; a morph's; a refusal.
+-- A record of frame 25 behind the bone; a loose one; two tracks; a morph's two keys; a refusal.
 abbrev pub listings : List (List ℕ × List ℕ)
 listings =
     (listed (bone 1 one (small 1 ++ additional_bone (small 1) (small 25) 0 0)), codes "model 1 0 492\nbone 0 0 0\nbone 0 25 0\nkeys 2 loose 0\n")

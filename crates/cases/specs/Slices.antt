@@ -11,8 +11,8 @@ use Rattle.cases.specs.Sections.{linked}
 abbrev pub called : List ℕ → ℕ → ℕ → ℕ → Outcome
 called section first second output = strip_call edition1 count_width section 0 (nines first) (nines second) (nines output)
 
--- One nameless bone and a record of index 1 behind it; one nameless morph with this link, and a record of index 1 and frame 1 with this
--- next link behind it.
+-- One nameless bone and a record of index 1 and frame 1 behind it; one nameless morph with this link, and a record of index 1 and frame 1
+-- with this next link behind it.
 abbrev pub two_keys : List ℕ
 two_keys = linked 1 1 0 0
 

@@ -56,8 +56,9 @@ curves_of_128 = 128 ∷ 20 ∷ 107 ∷ 127 ∷ plain_curve ++ plain_curve
 abbrev pub rotation : List ℕ
 rotation = 1 ∷ 2 ∷ 3 ∷ 4 ∷ []
 
--- In one key 23 and 24 come before 25: no keys, and a byte behind; a key count cut; frame 2^31, then no such map, or none; a frame met
--- again, and no such map, or none, in the later key; 65,535 keys of which the first has no such map.
+-- "Refusals are met in byte order, 25 at the end of the key concerned": no keys, before a byte left over; a key count cut; in a key of
+-- frame 2^31 an unknown map, or none; a frame met again, then in the later key an unknown map, or none; an unknown map before keys not
+-- there.
 abbrev pub orders : List StripCase
 orders =
     refused (tracks 1 0 (0 ∷ 0 ∷ 119 ∷ [])) 25
@@ -107,7 +108,8 @@ abbrev pub two_of : List (List ℕ) → List FieldsKey
 two_of fields = record { frame = 0; body = fields } ∷ record { frame = 1; body = fields } ∷ []
 
 -- With limits of 28 bytes and 1 additional key in the place of 16,777,215, for which proofs/TooLong stands, and 65,534: as many bytes, and
--- one additional key of each kind; two of one kind, in two tracks and in one; a byte more, tested before all else.
+-- one additional key of each kind; two of one kind, in two tracks and in one; a byte more, tested before all else. That of tracks plays no
+-- part.
 abbrev pub small_limits : Limits
 small_limits = record { bytes = 28; tracks = 0; additional = 1 }
 

@@ -1,9 +1,7 @@
--- How many numbers there are of each answer of several groups, where its arrays are as long as their types say: the groups' lengths
--- add up. Assumes nothing.
+-- How many numbers there are of each answer of several groups. Assumes nothing.
 use mathlib.Core.Path.{◌≡◌, refl}
-use native.Mathlib.Omega.{arith}
-use lib.ListN.{length, length-append}
-use Rattle.answer_numbers.specs.Groups.{base, pose, span}
+use lib.ListN.{length}
+use Rattle.answer_numbers.specs.Groups.{base, vector, orientation, pose, span}
 use Rattle.answer_numbers.specs.Keyframes.{bone_flags, bone, morph_fields, morph, model_fields, model}
 use Rattle.answer_numbers.specs.States.{bone_state_flags, bone_state}
 use Rattle.answer_numbers.specs.Summary.{places, view, selected, counts, ending, scalars, record_offsets, state_offsets, offsets, model_summary}
@@ -22,13 +20,13 @@ pub length-summary : (x : PmmDocumentModelSummary) → length (model_summary x) 
 unfolding model_summary scalars places view selected counts ending offsets record_offsets state_offsets
 length-summary x = refl
 
-pub length-pose : (x : PoseBits) → length x.translation ≡ 3 → length x.orientation ≡ 4 → length (pose x) ≡ 7
-unfolding pose
-length-pose x t o = simp length-append (omega (arith, t, o))
+pub length-pose : (x : PoseBits) → length (pose x) ≡ 7
+unfolding pose vector orientation
+length-pose x = refl
 
-pub length-bone : (x : PmmDocumentBoneKeyframeSummary) → length x.pose_bits.translation ≡ 3 → length x.pose_bits.orientation ≡ 4 → length (bone x) ≡ 17
-unfolding bone base pose bone_flags span
-length-bone x t o = simp length-append (omega (arith, t, o))
+pub length-bone : (x : PmmDocumentBoneKeyframeSummary) → length (bone x) ≡ 17
+unfolding bone base pose vector orientation bone_flags span
+length-bone x = refl
 
 pub length-morph : (x : PmmDocumentMorphKeyframeSummary) → length (morph x) ≡ 10
 unfolding morph base morph_fields span
@@ -38,22 +36,22 @@ pub length-model : (x : PmmDocumentModelKeyframeSummary) → length (model x) �
 unfolding model base model_fields span
 length-model x = refl
 
-pub length-bone-state : (x : PmmDocumentBoneStateSummary) → length x.pose_bits.translation ≡ 3 → length x.pose_bits.orientation ≡ 4 → length (bone_state x) ≡ 10
-unfolding bone_state pose bone_state_flags
-length-bone-state x t o = simp length-append (omega (arith, t, o))
+pub length-bone-state : (x : PmmDocumentBoneStateSummary) → length (bone_state x) ≡ 10
+unfolding bone_state pose vector orientation bone_state_flags
+length-bone-state x = refl
 
 pub length-track : (x : PmmDocumentTrackSummary) → length (track_summary x) ≡ 9
 unfolding track_summary
 length-track x = refl
 
-pub length-camera-view : (x : CameraKeyframeSummary) → length x.look_at_bits ≡ 3 → length x.angle_bits ≡ 3 → length (camera_view x) ≡ 11
-unfolding camera_view base
-length-camera-view x l a = simp length-append (omega (arith, l, a))
+pub length-camera-view : (x : CameraKeyframeSummary) → length (camera_view x) ≡ 11
+unfolding camera_view base vector
+length-camera-view x = refl
 
-pub length-camera : (x : CameraKeyframeSummary) → length x.look_at_bits ≡ 3 → length x.angle_bits ≡ 3 → length (camera x) ≡ 32
-unfolding camera camera_view base camera_rest camera_fields camera_offsets span
-length-camera x l a = simp length-append (omega (arith, l, a))
+pub length-camera : (x : CameraKeyframeSummary) → length (camera x) ≡ 32
+unfolding camera camera_view base vector camera_rest camera_fields camera_offsets span
+length-camera x = refl
 
-pub length-light : (x : LightKeyframeSummary) → length x.color_bits ≡ 3 → length x.direction_bits ≡ 3 → length (light x) ≡ 20
-unfolding light base light_fields span
-length-light x c d = simp length-append (omega (arith, c, d))
+pub length-light : (x : LightKeyframeSummary) → length (light x) ≡ 20
+unfolding light base vector light_fields span
+length-light x = refl

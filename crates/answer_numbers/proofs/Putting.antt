@@ -1,14 +1,14 @@
 -- Writing from a place on, by induction on what is written: nothing changes past the slice's end, one list behind another is both at once
 -- (`put-append`), and in one equation `put` is what stands before, as much as fits, and what stands behind (`put_is`). Assumes nothing.
-use Prim.Native.Nat.{ℕ, suc, ◌+◌, ◌-◌, ◌<◌, ◌≤◌, min}
+use Prim.Native.Nat.{ℕ, zero, suc, ◌+◌, ◌-◌, ◌<◌, ◌≤◌, min}
 use mathlib.Core.List.{List, [], ◌∷◌, ◌++◌, append-nil, append_assoc}
 use mathlib.Core.Path.{◌≡◌, refl, sym, ap, ◌∙◌}
 use native.Mathlib.Nat.{add-zero, add-suc, suc-add}
 use native.Mathlib.Omega.{arith}
 use native.Mathlib.Decide.{dec_lt, dec_le}
-use lib.ListN.{length, take, drop, set, length-set, length-drop, drop_of_length-le, take-append-drop}
+use lib.ListN.{length, get_or, take, drop, set, length-set, length-drop, drop_of_length-le, take-append-drop}
 use Rattle.std.proofs.Common.{drop-drop}
-use lib.Seq.{set_out, take_all, take-nil, take-suc-set, drop-set-lt}
+use lib.Seq.{set_out, take_all, take-nil, take-suc-set, length-take-le, drop-set-lt}
 use Rattle.answer_numbers.specs.Put.{put}
 
 pub put-none : {A : Type 0} (at : ℕ) (slice : List A) → put at [] slice ≡ slice
@@ -28,12 +28,33 @@ length-put at [] slice = refl
 length-put at (x ∷ xs) slice = length-put (suc at) xs (set slice at x) ∙ length-set slice at x
 
 -- Writing xs and then ys behind them is writing xs ++ ys.
-pub put-append : (at : ℕ) (xs ys slice : List ℕ) → put at (xs ++ ys) slice ≡ put (at + length xs) ys (put at xs slice)
+pub put-append : {A : Type 0} (at : ℕ) (xs ys slice : List A) → put at (xs ++ ys) slice ≡ put (at + length xs) ys (put at xs slice)
 unfolding put
-put-append at [] ys slice = ap (λ (k : ℕ). put k ys slice) (sym (add-zero at))
-put-append at (x ∷ xs) ys slice =
+put-append {A} at [] ys slice = ap (λ (k : ℕ). put k ys slice) (sym (add-zero at))
+put-append {A} at (x ∷ xs) ys slice =
     put-append (suc at) xs ys (set slice at x)
     ∙ ap (λ (k : ℕ). put k ys (put (suc at) xs (set slice at x))) (suc-add at (length xs) ∙ sym (add-suc at (length xs)))
+
+-- One item more: it goes to the place behind the others.
+pub put-turn : {A : Type 0} (at i : ℕ) (xs slice : List A) (d : A) → i < length xs → put at (take (suc i) xs) slice ≡ set (put at (take i xs) slice) (at + i) (get_or xs i d)
+unfolding put
+put-turn at i [] slice d lt = absurd (omega (arith, lt))
+put-turn at zero (x ∷ xs) slice d lt = ap (λ (k : ℕ). set slice k x) (sym (add-zero at))
+put-turn at (suc i) (x ∷ xs) slice d lt =
+    put-turn (suc at) i xs (set slice at x) d (omega (arith, lt))
+    ∙ ap (λ (k : ℕ). set (put (suc at) (take i xs) (set slice at x)) k (get_or xs i d)) (suc-add at i ∙ sym (add-suc at i))
+
+-- As many as fit are all that are written.
+pub put-fit : {A : Type 0} (at fit : ℕ) (xs slice : List A) → at < length slice → fit ≡ min (length xs) (length slice - at) → put at (take fit xs) slice ≡ put at xs slice
+put-fit {A} at fit xs slice within e =
+    elim (dec_le (length xs) (length slice - at)) [
+      | yes all ↦ ap (λ (ys : List A). put at ys slice) (take_all fit xs (omega (arith, e, all)))
+      | no some ↦
+          let many : length (take fit xs) ≡ fit = length-take-le fit xs (omega (arith, e)) in
+          sym (put-past (at + length (take fit xs)) (drop fit xs) (put at (take fit xs) slice) (rw (length-put at (take fit xs) slice, many) (omega (arith, e, some))))
+          ∙ sym (put-append at (take fit xs) (drop fit xs) slice)
+          ∙ ap (λ (ys : List A). put at ys slice) (take-append-drop fit xs)
+    ]
 
 -- A group behind those that were written: `done` from `at` on, then xs at the place behind them.
 pub behind : (at place : ℕ) (done xs before between now : List ℕ) → between ≡ put at done before → at + length done ≡ place → now ≡ put place xs between → now ≡ put at (done ++ xs) before
@@ -70,22 +91,6 @@ put_is at (x ∷ xs) slice =
       | no past ↦ put-past at (x ∷ xs) slice (omega (arith, past)) ∙ without-room at (x ∷ xs) slice (at + suc (length xs)) (omega (arith, past)) (omega arith)
     ]
 
--- As many as fit are copied.
-pub put-copied : {A : Type 0} (at fit : ℕ) (xs slice : List A) → at < length slice → fit ≡ min (length xs) (length slice - at) → take at slice ++ (take fit xs ++ drop (at + fit - at) (drop at slice)) ≡ put at xs slice
-put-copied {A} at fit xs slice within e =
-    let many : at + fit - at ≡ fit = omega arith in
-    elim (dec_le (length xs) (length slice - at)) [
-      | yes all ↦
-          let whole : fit ≡ length xs = omega arith in
-          rw (many, whole, take_all (length xs) xs (omega arith), drop-drop (length xs) at slice)
-          (sym (append_assoc (take at slice) xs (drop (at + length xs) slice)) ∙ sym (put_is at xs slice ∙ rw (take_all (length slice - at) xs all)))
-      | no some ↦
-          let room : fit ≡ length slice - at = omega arith in
-          let end : at + (length slice - at) ≡ length slice = omega arith in
-          rw (many, room, drop-drop (length slice - at) at slice, end, drop_of_length-le slice {i = length slice} (omega arith))
-          (sym (append_assoc (take at slice) (take (length slice - at) xs) []) ∙ sym (put_is at xs slice ∙ rw (drop_of_length-le slice {i = at + length xs} (omega (arith, some)))))
-    ]
-
 -- Writing from a place on is writing what stands there from its first place on.
 put-first : {A : Type 0} (at : ℕ) (xs slice : List A) → take at slice ++ put 0 xs (drop at slice) ≡ put at xs slice
 put-first at xs slice =
@@ -109,4 +114,4 @@ put-within at first xs slice now e wrote =
     rw (wrote, take_all (length slice - first) (drop first slice) fits, drop_of_length-le (drop first slice) {i = length slice - first} fits, append-nil (put 0 xs (drop first slice)))
     (put-first first xs slice ∙ put-end at first xs slice e)
 
-pub ruleset puts = (put-none, put-past, put-copied, put-within)
+pub ruleset puts = (put-none, put-past, put-turn, put-fit, put-within)

@@ -1,6 +1,6 @@
 -- The numbers of camera and light sections and their records.
 use Rattle.std.specs.Prelude.{ℕ, List, [], ◌∷◌, ◌++◌}
-use Rattle.answer_numbers.specs.{Scalars.{pattern, flag}, Groups.{base, span}}
+use Rattle.answer_numbers.specs.{Scalars.{pattern, flag}, Groups.{base, vector, span}}
 use Rattle.camera_light.specs.declared.track.PmmDocumentTrackSummary.{PmmDocumentTrackSummary}
 use Rattle.camera_light.specs.declared.camera.{CameraOffsets.{CameraOffsets}, CameraKeyframeSummary.{CameraKeyframeSummary}}
 use Rattle.camera_light.specs.declared.light.LightKeyframeSummary.{LightKeyframeSummary}
@@ -11,7 +11,7 @@ track_summary t =
     ∷ t.keyframes_offset ∷ t.keyframes_end_offset ∷ t.state_offset ∷ t.state_end_offset ∷ []
 
 unfoldable pub camera_view : CameraKeyframeSummary → List ℕ
-camera_view c = base c.base ++ c.distance_bits ∷ c.look_at_bits ++ c.angle_bits
+camera_view c = base c.base ++ c.distance_bits ∷ vector c.look_at_bits ++ vector c.angle_bits
 
 unfoldable pub camera_fields : CameraKeyframeSummary → List ℕ
 camera_fields c =
@@ -36,4 +36,4 @@ light_fields l =
     ∷ l.selected_offset ∷ []
 
 unfoldable pub light : LightKeyframeSummary → List ℕ
-light l = base l.base ++ l.color_bits ++ l.direction_bits ++ light_fields l ++ span l.span
+light l = base l.base ++ vector l.color_bits ++ vector l.direction_bits ++ light_fields l ++ span l.span

@@ -1,6 +1,6 @@
 // The numbers of what records and states have in common.
 ghost use Rattle.std.specs.Prelude.{◌≡◌};
-ghost use Rattle.answer_numbers.specs.Groups.{base, pose, span};
+ghost use Rattle.answer_numbers.specs.Groups.{base, vector, orientation, pose, span};
 
 use crate::answers::Numbers;
 use crate::{put, scalars};
@@ -24,18 +24,22 @@ impl Numbers for PmmDocumentBaseKeyframeSummary {
 
 // The bits of several f32, as they are. Two impls: of an array of any length it would not be known that it fits in memory.
 impl Numbers for [u32; 3] {
-    ghost numbers = { λ bits. bits };
+    ghost numbers = { vector };
 
+    #[tactic(auto, unfolding(crate::specs::Groups::vector))]
     fn put(self, values: &mut [u64]) {
-        put::put(values, 0, &self.map(u64::from));
+        let [x, y, z] = self.map(u64::from);
+        put::put(values, 0, &[x, y, z]);
     }
 }
 
 impl Numbers for [u32; 4] {
-    ghost numbers = { λ bits. bits };
+    ghost numbers = { orientation };
 
+    #[tactic(auto, unfolding(crate::specs::Groups::orientation))]
     fn put(self, values: &mut [u64]) {
-        put::put(values, 0, &self.map(u64::from));
+        let [x, y, z, w] = self.map(u64::from);
+        put::put(values, 0, &[x, y, z, w]);
     }
 }
 

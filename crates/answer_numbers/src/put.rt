@@ -9,7 +9,10 @@ pub fn put<T: Copy>(slice: &mut [T], at: usize, items: &[T])
 {
     if at < slice.len() {
         let fit = items.len().min(slice.len() - at);
-        slice[at..at + fit].copy_from_slice(&items[..fit]);
+        // Not `copy_from_slice`: the archive for C would need `memmove` from outside for it.
+        for i in 0..fit {
+            slice[at + i] = items[i];
+        }
     }
 }
 

@@ -4,6 +4,7 @@ pub mod Indexed
 pub mod Chained
 pub mod Follow
 pub mod Walked
+pub mod Cycles
 pub mod Ends
 pub mod Sound
 pub mod Reached

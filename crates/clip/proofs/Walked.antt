@@ -10,7 +10,8 @@ use mathlib.Core.Path.{◌≡◌, refl, sym, ap, ◌∙◌, subst}
 use borrow.Author.Tests.{eq-eqb, ne_eqb}
 use lib.Dec.{eqb}
 use lib.IntN.{pos}
-use lib.ListN.{length}
+use lib.ListN.{length, get_or, length-append, get_or-append}
+use lib.Seq.{get_or-append_seam}
 use Rattle.layout.specs.Refusals.{missing_link, cycle, wrong_previous}
 use Rattle.layout.specs.Numbers.{signed}
 use Rattle.layout.specs.Walk.{Answer, answered, declined}
@@ -20,7 +21,7 @@ use Rattle.clip.specs.Scan.{record_of, Indexed}
 use Rattle.clip.specs.Chain.{with, follow, chain}
 use Rattle.clip.proofs.Counting.{Distinct, AllBelow, distinct-length}
 use Rattle.clip.proofs.Indexed.{of-record}
-use Rattle.clip.proofs.Chained.{path-distinct, Linked, path, closed}
+use Rattle.clip.proofs.Chained.{member-place, one_place, path-distinct, Linked, path, closed}
 use Rattle.clip.proofs.Follow.{Fresh, fresh-nil, fresh-cons, chain-is}
 
 abbrev with_all : List ℕ → Answer (List ℕ) → Answer (List ℕ)
@@ -63,6 +64,21 @@ module _ {B : Type 0} (r : Records B) where
   module _ (x : Indexed r) (t : ℕ) (is-track : t < r.tracks) (l : ℕ) where
     pub few : (ps : List ℕ) (e' l' : ℕ) → Linked r t l ps e' l' → length ps ≤ r.additional
     few ps e' l' c = distinct-length r.additional ps (path-distinct r x t is-track ps (path r ps t l e' l' c)) (linked-below ps t l e' l' c)
+
+    pub new-record : (ps : List ℕ) (e' l' p : ℕ) → Linked r t l ps e' l' → (l' ≡ 0 → ⊥) → p < r.additional → (r.at p).index ≡ l' → (r.at p).previous ≡ e' → member p ps ≡ false
+    new-record ps e' l' p c on below is back = go (member p ps) refl
+      where
+        go : (b : Bool) → member p ps ≡ b → b ≡ false
+        go false e = refl
+        go true e =
+            let at = member-place p ps e in
+            let longer = ps ++ p ∷ [] in
+            let whole = path r longer t l l' (r.at p).next (one_more ps t l e' l' p c on below is back) in
+            let many = length-append ps (p ∷ []) in
+            let inner : get_or longer at.place 0 ≡ p = get_or-append ps (p ∷ []) 0 at.place at.below ∙ at.is in
+            let outer : get_or longer (length ps) 0 ≡ p = get_or-append_seam ps p [] 0 in
+            let below = at.below in
+            absurd (let same = (one_place r x t t is-track is-track longer longer whole whole at.place (length ps) (omega (arith, below, many)) (omega (arith, many)) (inner ∙ sym outer)).1 in omega (arith, same, below))
 
 -- One step of the walk, by what it finds.
 module _ {B : Type 0} (kind : Kind) (r : Records B) (t : ℕ) (n : ℕ) (visited : List ℕ) (e l : ℕ) (on : l ≡ 0 → ⊥) where

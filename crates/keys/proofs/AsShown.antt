@@ -7,7 +7,7 @@ use mathlib.Core.List.{List}
 use mathlib.Core.Path.{◌≡◌, refl, sym, ap, ◌∙◌}
 use Rattle.std.specs.Prelude.{Option, Some, None}
 use Rattle.layout.specs.Numbers.{float}
-use Rattle.layout.specs.Walk.{Reader, ◌>>=◌, ◌>>◌, give, here, fine, u32_at, u32, bool, block}
+use Rattle.layout.specs.Walk.{Reader, ◌>>=◌, ◌>>◌, give, here, fine, u32_at, bytes_at, u32, bool, block}
 use Rattle.layout.proofs.Inversion.{came, Was, item-was}
 use Rattle.records.specs.Base.{index_bits, base_bits}
 use Rattle.records.specs.Pose.{pose_bits}
@@ -64,6 +64,7 @@ module _ (s : List ℕ) where
     pub frame : u32_at s from ≡ b.frame
     pub previous : u32_at s (from + 4) ≡ b.previous
     pub link : u32_at s (from + 8) ≡ b.next
+    pub payload : from + 12 ≡ b.payload_offset
     pub to : from + 12 ≡ next
 
   base-made : (index : Option ℕ) (from : ℕ) (b : BaseBits) (next : ℕ) (f p l i j k : ℕ) → Was (u32_at s from) (from + 4) f i → Was (u32_at s i) (i + 4) p j → Was (u32_at s j) (j + 4) l k → fine (record { index = index; frame = f; previous = p; next = l; payload_offset = k }) k ≡ fine b next → (index ≡ b.index) × Base from b next
@@ -79,6 +80,7 @@ module _ (s : List ℕ) where
           frame = x.is ∙ ap (λ (v : BaseBits). v.frame) whole;
           previous = ap (u32_at s) e1 ∙ y.is ∙ ap (λ (v : BaseBits). v.previous) whole;
           link = ap (u32_at s) {x = from + 8} {y = j} (omega (arith, e1, e2)) ∙ z.is ∙ ap (λ (v : BaseBits). v.next) whole;
+          payload = end ∙ ap (λ (v : BaseBits). v.payload_offset) whole;
           to = end ∙ last;
         },
       )
@@ -204,3 +206,18 @@ module _ (s : List ℕ) where
   pub initial-morph-shown : (at : ℕ) (b : MorphBits) (end : ℕ) → morph_bits false s at ≡ fine b end → InitialShown (initial_at morph_body s at) b.base × WeightShown (initial_at morph_body s at).body b
   unfolding morph_bits
   initial-morph-shown = initial-record morph_body morph_rest (λ b. b.base) WeightShown morph-rest
+
+  -- The curves begin the payload.
+  pub curves-shown : (at : ℕ) (b : BoneBits) (next : ℕ) → bone_bits true s at ≡ fine b next → (additional_at bone_body s at).body.interpolation ≡ bytes_at s b.base.payload_offset 16
+  unfolding bone_bits additional_at bone_body
+  curves-shown at b next e =
+      let x = came (base_bits true s at) _ b next e in
+      let payload = (additional-base at x.value x.at x.first).1.payload in
+      let same = ap (λ (v : BaseBits). v.payload_offset) (bone-rest x.value x.at x.at b next refl x.rest).0 in
+      ap (λ (k : ℕ). bytes_at s k 16) {x = at + 16} {y = b.base.payload_offset} (omega (arith, payload, same))
+
+  pub initial-curves-shown : (at : ℕ) (b : BoneBits) (next : ℕ) → bone_bits false s at ≡ fine b next → (initial_at bone_body s at).body.interpolation ≡ bytes_at s b.base.payload_offset 16
+  unfolding bone_bits initial_at bone_body
+  initial-curves-shown at b next e =
+      let x = came (base_bits false s at) _ b next e in
+      ap (λ (k : ℕ). bytes_at s k 16) ((initial-base at x.value x.at x.first).1.payload ∙ ap (λ (v : BaseBits). v.payload_offset) (bone-rest x.value x.at x.at b next refl x.rest).0)

@@ -26,7 +26,7 @@ pub enum PoseFault {
 }
 
 #[tactic(auto, using(crate::proofs::Asking::finite_is))]
-fn finite(x: f32) -> bool
+pub fn finite(x: f32) -> bool
     ensures { result ≡ finite x }
 {
     x.is_finite()
@@ -64,7 +64,7 @@ fn orientation_fails(pose: Pose) -> bool
 }
 
 #[tactic(auto, using(crate::proofs::Asking::poses))]
-fn pose_asked(pose: Pose) -> Result<(), PoseFault>
+pub fn pose_asked(pose: Pose) -> Result<(), PoseFault>
     ensures { asked_read result ≡ pose_asked pose }
 {
     if translation_fails(pose) {

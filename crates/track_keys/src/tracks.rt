@@ -14,7 +14,12 @@ use blocks::fault::Fault;
 use blocks::track::TrackIndex;
 use chains::lookup::Indexed;
 
-fn record_key(records: &Records, track: TrackIndex, p: usize, repeated: bool) -> Result<(), Fault>
+pub fn record_key(
+    records: &Records,
+    track: TrackIndex,
+    p: usize,
+    repeated: bool,
+) -> Result<(), Fault>
     requires p_lt_count { p < records.now.block.records.count }
     requires is_track { TrackOf records.now.block track }
     ensures { met_read result ≡ key_meets records.now.section.now records.now.block.kind (number_of_track track) ((links records.now.section.now records.now.block).at p).frame ((links records.now.section.now records.now.block).at p).body repeated }

@@ -71,6 +71,10 @@ fn with_record<const N: usize>(bone_next: u32, index: u32, previous: u32, next: 
     s
 }
 
+pub fn one_bone() -> [u8; 430] {
+    with_bone(PLAIN)
+}
+
 // The orientation's x, y and w.
 pub fn turned(x: f32, y: f32, w: f32) -> [u8; 430] {
     with_bone(Record { x, y, w, ..PLAIN })

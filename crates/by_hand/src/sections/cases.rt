@@ -11,8 +11,8 @@ pub fn negative_count<F: Fn(&str, &[u8]) -> io::Result<()>>(run: F) -> io::Resul
 pub fn orientations<F: Fn(&str, &[u8]) -> io::Result<()>>(run: F) -> io::Result<()>
     requires { F.IsAlwaysCallable run }
 {
+    run("one bone", &bones::one_bone())?;
     for (what, x, y, w) in [
-        ("one bone", 0.0, 0.0, 1.0),
         ("orientation all 0", 0.0, 0.0, 0.0),
         (
             "orientation 2^-12, 2^-12, 0, 0",

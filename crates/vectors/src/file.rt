@@ -1,6 +1,6 @@
 // The sections of a file, one after the other, each with its checks.
 use crate::fields::Fields;
-use crate::tally::{Outcome, Tally};
+use crate::tally::{MOST, Outcome, Tally};
 use std::io;
 use std::io::Read;
 use std::rt::Files;
@@ -32,9 +32,6 @@ fn next_head(file: &mut impl Read) -> io::Result<Option<Head>> {
     }))
 }
 
-// No file here has so many checks; an endless one is left.
-const MOST: u64 = 1000000;
-
 // Makes the checks of the file and counts them. A section that is longer than the space for it ends the file; where the file ends
 // early the places behind keep what they held.
 fn every_check<F: Fn(Section<'_>, &mut Fields<'_>) -> Outcome>(
@@ -46,6 +43,8 @@ fn every_check<F: Fn(Section<'_>, &mut Fields<'_>) -> Outcome>(
     let mut section_space = [0u8; 4096];
     let mut checks_space = [0u8; 65536];
     let mut tally = Tally::default();
+    // Apart from the tally's checks, to which a number returned may add.
+    let mut made: u64 = 0;
     for _ in 0..MOST {
         let Some(head) = next_head(file)? else {
             break;
@@ -66,13 +65,15 @@ fn every_check<F: Fn(Section<'_>, &mut Fields<'_>) -> Outcome>(
         let mut fields = Fields::new(checks);
         // Every section has a check, and a check has a byte or more.
         tally.add(make(section, &mut fields));
+        made = made.saturating_add(1);
         for _ in 0..head.checks_length {
-            if fields.is_empty() || tally.checks == MOST {
+            if fields.is_empty() || made == MOST {
                 break;
             }
             tally.add(make(section, &mut fields));
+            made = made.saturating_add(1);
         }
-        if tally.checks == MOST {
+        if made == MOST {
             break;
         }
     }
